@@ -1,0 +1,67 @@
+-- What is held, and the ranges of what can be.
+use mathlib.Core.Path.{_≡_}
+use mathlib.Core.Bool.{Bool, _&&_}
+use mathlib.Core.List.{List, List·Memᴰ}
+use Prim.Native.Nat.{ℕ}
+use lib.Dec.{T}
+use lib.IntN.{ℤ, pos}
+use Rattle.terms.specs.declared.Rule.{Rule}
+use Rattle.terms.specs.declared.Rule.the-variants.{Label, Both, Link, Via}
+use Rattle.terms.specs.declared.Atom.{Atom}
+use Rattle.terms.specs.declared.Atom.the-variants.{Has, Linked}
+use Rattle.terms.specs.declared.Mark.{Mark}
+use Rattle.terms.specs.Limits.{isItem, isKind, isLeft, isConcluded, isMarked, isLabel, isDepth}
+use Rattle.terms.specs.Operators.{isOperator}
+
+infix 50 _∈_
+abbrev pub _∈_ : {X : Type 0} → X → List X → Type 0
+x ∈ xs = List·Memᴰ x xs
+
+-- what records set until RESET beside the lists: nothing yet
+abbrev pub Settings : Type 0
+Settings = Unit {0}
+
+-- 01, State and tables: the held rules and marks, in the order of putting
+pub record Held : Type 0 where
+  pub rules : List Rule
+  pub marks : List Mark
+  pub settings : Settings
+
+abbrev pub withRules : Held → List Rule → Held
+withRules h rs = record { rules = rs; marks = h .marks; settings = h .settings }
+
+abbrev pub withMarks : Held → List Mark → Held
+withMarks h ms = record { rules = h .rules; marks = ms; settings = h .settings }
+
+-- 01, State and tables: what a free place of the mark list holds
+abbrev pub emptyMark : Mark
+emptyMark = record { atom = Has 0 0; depth = pos 0 }
+
+-- where a mark is true: at its depth
+abbrev pub At : Mark → ℤ → Type 0
+At m i = m .depth ≡ i
+
+-- 01, Rules of derivation: a statement names items, a label or a link kind that there are
+abbrev pub isStatement : Atom → Bool
+isStatement (Has a A) = isItem a && isLabel A
+isStatement (Linked a r b) = isItem a && (isKind r && isItem b)
+
+-- 01, Records: the fields of a rule
+abbrev pub isRule : Rule → Bool
+isRule (Label op A B) = isOperator op && (isLeft A && isConcluded B)
+isRule (Both A B C) = isLeft A && (isLeft B && isConcluded C)
+isRule (Link op r s) = isOperator op && (isKind r && isKind s)
+isRule (Via r A B) = isKind r && (isLeft A && isConcluded B)
+
+-- 01, Records: the fields of a mark, without its depth
+abbrev pub isMarkable : Atom → Bool
+isMarkable (Has a A) = isItem a && isMarked A
+isMarkable (Linked a r b) = isItem a && (isKind r && isItem b)
+
+abbrev pub isMark : Mark → Bool
+isMark m = isMarkable (m .atom) && isDepth (m .depth)
+
+-- what is held is in range
+pub record InRange (h : Held) : Type 0 where
+  pub rules : (ρ : Rule) → ρ ∈ h .rules → T (isRule ρ)
+  pub marks : (m : Mark) → m ∈ h .marks → T (isMark m)

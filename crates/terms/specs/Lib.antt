@@ -1,0 +1,13 @@
+pub mod Order
+pub mod Tests
+pub mod Limits
+pub mod Operators
+pub mod Answers
+pub mod Held
+pub mod Model
+pub mod Transfer
+pub mod Depths
+pub mod Sets
+pub mod Interpretations
+pub mod Spans
+pub mod Worked

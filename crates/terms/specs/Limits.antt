@@ -1,0 +1,100 @@
+-- The numbers of 01, each stated once for the definitions. `Limits::of_code` is proved to give the same ones for the code.
+use mathlib.Core.Bool.{Bool, _&&_}
+use Prim.Native.Nat.{ℕ, _+_}
+use lib.Dec.{leb, ltb}
+use lib.IntN.{ℤ, pos, negsuc}
+use lib.Signed.{leZ}
+use Rattle.terms.specs.declared.Limits.{Limits}
+
+-- 01, Names and depths: items 0 to 15, labels 0 to 63, link kinds 0 to 7, EVERY and NEVER
+abbrev pub ITEMS : ℕ
+ITEMS = 16
+
+abbrev pub LABELS : ℕ
+LABELS = 64
+
+abbrev pub KINDS : ℕ
+KINDS = 8
+
+abbrev pub EVERY : ℕ
+EVERY = 0
+
+abbrev pub NEVER : ℕ
+NEVER = 63
+
+-- 01, Names and depths: how many rules, marks and marked depths are held
+abbrev pub RULES : ℕ
+RULES = 128
+
+abbrev pub MARKS : ℕ
+MARKS = 256
+
+abbrev pub DEPTHS : ℕ
+DEPTHS = 96
+
+-- 01, Pieces of the line: at most so many pieces, two cuts for each marked depth and one more
+abbrev pub INTERVALS : ℕ
+INTERVALS = DEPTHS + DEPTHS + 1
+
+-- 01, Operators: the largest n of WITHIN
+abbrev pub WITHIN-MOST : ℕ
+WITHIN-MOST = 300_000
+
+-- 01, Names and depths: where marks lie
+abbrev pub SHALLOWEST : ℤ
+SHALLOWEST = negsuc 9_999
+
+abbrev pub DEEPEST : ℤ
+DEEPEST = pos 200_000
+
+-- 01, Records: the numbers that mean no end on that side
+abbrev pub NO-TOP : ℤ
+NO-TOP = negsuc 2_147_483_647
+
+abbrev pub NO-BOTTOM : ℤ
+NO-BOTTOM = pos 2_147_483_647
+
+abbrev pub stated : Limits
+stated = record {
+  items = ITEMS;
+  labels = LABELS;
+  kinds = KINDS;
+  every = EVERY;
+  never = NEVER;
+  rules = RULES;
+  marks = MARKS;
+  depths = DEPTHS;
+  intervals = INTERVALS;
+  «within_most» = WITHIN-MOST;
+  shallowest = SHALLOWEST;
+  deepest = DEEPEST;
+  «no_top» = NO-TOP;
+  «no_bottom» = NO-BOTTOM;
+}
+
+-- 01, Records: what may stand in each field
+abbrev pub isItem : ℕ → Bool
+isItem a = ltb a ITEMS
+
+abbrev pub isKind : ℕ → Bool
+isKind r = ltb r KINDS
+
+-- a label on a rule's left side: 0 to 62
+abbrev pub isLeft : ℕ → Bool
+isLeft A = ltb A NEVER
+
+-- a concluded label: 1 to 63
+abbrev pub isConcluded : ℕ → Bool
+isConcluded A = ltb EVERY A && ltb A LABELS
+
+-- a marked label: 1 to 62
+abbrev pub isMarked : ℕ → Bool
+isMarked A = ltb EVERY A && ltb A NEVER
+
+-- a questioned label: 0 to 63
+abbrev pub isLabel : ℕ → Bool
+isLabel A = ltb A LABELS
+
+-- a mark's depth
+abbrev pub isDepth : ℤ → Bool
+isDepth i = leZ SHALLOWEST i && leZ i DEEPEST

@@ -1,0 +1,36 @@
+-- Tests that compute, and the facts that they stand for. Assumes nothing.
+use mathlib.Core.Path.{_≡_, refl, sym, subst}
+use mathlib.Core.Logic.{_⊎_, inl, inr}
+use mathlib.Core.Bool.{Bool, true, false, _&&_, _||_}
+use lib.Dec.{T}
+
+pub and-both : (a b : Bool) → T (a && b) → T a × T b
+and-both true b t = (tt, t)
+and-both false b t = absurd t
+
+pub both-and : (a b : Bool) → T a → T b → T (a && b)
+both-and true b s t = t
+both-and false b s t = absurd s
+
+pub or-one : (a b : Bool) → T (a || b) → T a ⊎ T b
+or-one true b t = inl tt
+or-one false b t = inr t
+
+pub or-left : (a b : Bool) → T a → T (a || b)
+or-left true b t = tt
+or-left false b t = absurd t
+
+pub or-right : (a b : Bool) → T b → T (a || b)
+or-right true b t = tt
+or-right false b t = t
+
+pub true-of : (b : Bool) → T b → b ≡ true
+true-of true t = refl
+true-of false t = absurd t
+
+pub of-true : {b : Bool} → b ≡ true → T b
+of-true e = subst T (sym e) tt
+
+pub false-of : (b : Bool) → (T b → ⊥) → b ≡ false
+false-of true t = absurd (t tt)
+false-of false t = refl
