@@ -1,12 +1,14 @@
 -- What is held, and the ranges of what can be.
 use mathlib.Core.Path.{_≡_}
 use mathlib.Core.Bool.{Bool, _&&_}
-use mathlib.Core.List.{List, List·Memᴰ}
+use mathlib.Core.List.{List, List·Memᴰ, map}
 use Prim.Native.Nat.{ℕ}
 use lib.Dec.{T}
 use lib.IntN.{ℤ, pos}
+use lib.ListN.{take, getD}
 use Rattle.terms.specs.declared.Rule.{Rule}
 use Rattle.terms.specs.declared.Rule.the-variants.{Label, Both, Link, Via}
+use Rattle.terms.specs.declared.RulePlace.{RulePlace}
 use Rattle.terms.specs.declared.Atom.{Atom}
 use Rattle.terms.specs.declared.Atom.the-variants.{Has, Linked}
 use Rattle.terms.specs.declared.Mark.{Mark}
@@ -36,6 +38,18 @@ withMarks h ms = record { rules = h .rules; marks = ms; settings = h .settings }
 -- 01, State and tables: what a free place of the mark list holds
 abbrev pub emptyMark : Mark
 emptyMark = record { atom = Has 0 0; depth = pos 0 }
+
+-- and of the rule list
+abbrev pub emptyPlace : RulePlace
+emptyPlace = record { rule = Both 0 0 0 }
+
+-- the rules in the first n places
+unfoldable pub rulesIn : List RulePlace → ℕ → List Rule
+rulesIn ps n = map (λ p. p .rule) (take n ps)
+
+-- the rule in a place
+abbrev pub ruleAt : List RulePlace → ℕ → Rule
+ruleAt ps q = getD ps q emptyPlace .rule
 
 -- where a mark is true: at its depth
 abbrev pub At : Mark → ℤ → Type 0

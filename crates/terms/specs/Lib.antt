@@ -1,13 +1,15 @@
 pub mod Order
 pub mod Tests
 pub mod Limits
+pub mod Refusals
 pub mod Operators
 pub mod Answers
 pub mod Held
+pub mod Same
+pub mod Lists
 pub mod Model
 pub mod Transfer
 pub mod Depths
 pub mod Sets
 pub mod Interpretations
 pub mod Spans
-pub mod Worked

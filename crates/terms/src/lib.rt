@@ -4,7 +4,7 @@ ghost use Rattle.terms.specs.Limits.{stated};
 ghost use lib.Dec.{eqb};
 ghost use Rattle.terms.specs.Operators.{readIf, operatorOf, codeOf, distanceOf, identityOperator, readNumber};
 ghost use Rattle.terms.specs.Answers.{numberOf, valueOf};
-ghost use Rattle.terms.specs.Held.{emptyMark};
+ghost use Rattle.terms.specs.Held.{emptyMark, emptyPlace};
 
 pub const ITEMS: u8 = 16;
 
@@ -176,6 +176,24 @@ pub enum Rule {
     Both(u8, u8, u8),
     Link(Operator, u8, u8),
     Via(u8, u8, u8),
+}
+
+// A place of the rule list: an array holds structs, and these hold the enum.
+pub struct RulePlace {
+    pub rule: Rule,
+}
+
+impl RulePlace {
+    // What stands in a free place of the rule list.
+    pub const EMPTY: RulePlace = RulePlace {
+        rule: Rule::Both(0, 0, 0),
+    };
+
+    pub fn empty() -> RulePlace
+        ensures { λ r. ⌜ r ≡ emptyPlace ⌝ }
+    {
+        RulePlace::EMPTY
+    }
 }
 
 // A statement without its depth: an item has a label; a link leads from one item to another.

@@ -1,0 +1,7 @@
+pub mod Tab
+pub mod Sizes
+pub mod Pack
+pub mod Equal
+pub mod Loading
+pub mod Round
+pub mod Small

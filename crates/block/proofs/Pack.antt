@@ -1,0 +1,140 @@
+-- Parts laid over zeros are the block's bytes: each part that is laid is filled up with the zeros that stand behind it. Assumes nothing.
+use mathlib.Core.Path.{_≡_, sym, ap, _∙_}
+use mathlib.Core.List.{List, _++_, append-assoc, map}
+use Prim.Native.Nat.{ℕ, _+_, _-_, _≤_}
+use native.Mathlib.Nat.{zero-add}
+use native.Mathlib.Omega.{arith}
+use lib.ListN.{length, take, drop, length-append, replicate-append-replicate, length-map}
+use lib.Seq.{drop-at, length-take-le}
+use Rattle.codec.specs.Bytes.{put, bytes}
+use Rattle.codec.proofs.Laws.{put-put, length-bytes}
+use Rattle.terms.specs.declared.RulePlace.{RulePlace}
+use Rattle.terms.specs.declared.Mark.{Mark}
+use Rattle.terms.specs.Held.{rulesIn}
+use Rattle.state.specs.declared.State.{State}
+use Rattle.state.specs.State.{heldOf, Counts-in}
+use Rattle.block.specs.Layout.{ruleBytes, markBytes, cat, zeros}
+use Rattle.block.specs.Block.{HEADER, MARKS-AT, SIZE, padded, encode}
+use Rattle.block.specs.Places.{placeBytesOf}
+use Rattle.block.proofs.Tab.{cat-map, length-cat}
+use Rattle.block.proofs.Sizes.{place-size, mark-size, length-zeros}
+
+pub zeros-add : (a b : ℕ) → zeros a ++ zeros b ≡ zeros (a + b)
+unfolding zeros
+zeros-add a b = replicate-append-replicate a b 0
+
+drop-zeros : (m n : ℕ) (t : List ℕ) → m ≤ n → drop m (zeros n ++ t) ≡ zeros (n - m) ++ t
+drop-zeros m n t h =
+    let e : m + (n - m) ≡ n = omega arith in
+    let s : zeros n ++ t ≡ zeros m ++ (zeros (n - m) ++ t) =
+    ap (λ (z : List ℕ). z ++ t) (ap zeros (sym e) ∙ sym (zeros-add m (n - m))) ∙ append-assoc (zeros m) (zeros (n - m)) t in
+    ap (drop m) s ∙ drop-at (zeros m) (zeros (n - m) ++ t) m (length-zeros m)
+
+put-front : (l x : List ℕ) → put l 0 x ≡ x ++ drop (length x) l
+unfolding put
+put-front l x = ap (λ (n : ℕ). x ++ drop n l) (zero-add (length x))
+
+-- zeros laid over zeros change nothing
+pad : (n k : ℕ) (t x : List ℕ) → length x + k ≤ n → put (zeros n ++ t) 0 x ≡ put (zeros n ++ t) 0 (x ++ zeros k)
+pad n k t x h =
+    let l : List ℕ = zeros n ++ t in
+    let e : k + (n - length x - k) ≡ n - length x = omega arith in
+    let f : n - length (x ++ zeros k) ≡ n - length x - k = simp (length-append, length-zeros) (omega arith) in
+    let g : length (x ++ zeros k) ≤ n = simp (length-append, length-zeros) h in
+    put-front l x
+    ∙ ap (λ (y : List ℕ). x ++ y) (drop-zeros (length x) n t (omega arith) ∙ ap (λ (z : List ℕ). z ++ t) (ap zeros (sym e) ∙ sym (zeros-add k (n - length x - k))) ∙ append-assoc (zeros k) (zeros (n - length x - k)) t)
+    ∙ sym (append-assoc x (zeros k) (zeros (n - length x - k) ++ t))
+    ∙ ap (λ (y : List ℕ). (x ++ zeros k) ++ y) (ap (λ (m : ℕ). zeros m ++ t) (sym f) ∙ sym (drop-zeros (length (x ++ zeros k)) n t g))
+    ∙ sym (put-front l (x ++ zeros k))
+
+-- the two counts, the rules and the marks over zeros
+module _ (t a b c d : List ℕ) (ha : length a ≡ 2) (hb : length b ≡ 2) (hc : length c ≤ 1024) (hd : length d ≤ 2048) where
+  abbrev l : List ℕ
+  l = zeros SIZE ++ t
+
+  long : SIZE ≤ length l
+  long = simp (length-append, length-zeros) (omega arith)
+
+  abbrev header : List ℕ
+  header = a ++ b ++ zeros 28
+
+  abbrev with-rules : List ℕ
+  with-rules = header ++ c ++ zeros (1024 - length c)
+
+  abbrev whole : List ℕ
+  whole = with-rules ++ d ++ zeros (2048 - length d)
+
+  length-counts : length (a ++ b) ≡ 4
+  length-counts = simp length-append (omega arith)
+
+  length-header : length header ≡ HEADER
+  length-header = simp (length-append, length-zeros) (omega arith)
+
+  length-rules : length (header ++ c) ≡ HEADER + length c
+  length-rules = length-append header c ∙ ap (λ (n : ℕ). n + length c) length-header
+
+  length-with-rules : length with-rules ≡ MARKS-AT
+  length-with-rules = length-append (header ++ c) (zeros (1024 - length c)) ∙ omega (arith, length-rules, length-zeros (1024 - length c))
+
+  length-marks : length (with-rules ++ d) ≡ MARKS-AT + length d
+  length-marks = length-append with-rules d ∙ ap (λ (n : ℕ). n + length d) length-with-rules
+
+  length-whole : length whole ≡ SIZE
+  length-whole = length-append (with-rules ++ d) (zeros (2048 - length d)) ∙ omega (arith, length-marks, length-zeros (2048 - length d))
+
+  all : put (put (put (put l 0 a) 2 b) HEADER c) MARKS-AT d ≡ put l 0 whole
+  all =
+      ap (λ (y : List ℕ). put (put y HEADER c) MARKS-AT d) (put-put l 0 2 a b (omega arith) (omega (arith, long)) ∙ pad SIZE 28 t (a ++ b) (omega (arith, length-counts)))
+      ∙ ap (λ (y : List ℕ). put y MARKS-AT d) (put-put l 0 HEADER header c (omega (arith, length-header)) (omega (arith, long)) ∙ pad SIZE (1024 - length c) t (header ++ c) (omega (arith, length-rules)))
+      ∙ put-put l 0 MARKS-AT with-rules d (omega (arith, length-with-rules)) (omega (arith, long))
+      ∙ pad SIZE (2048 - length d) t (with-rules ++ d) (omega (arith, length-marks))
+
+  regroup : whole ≡ a ++ (b ++ (zeros 28 ++ (padded 1024 c ++ padded 2048 d)))
+  regroup = simp append-assoc
+
+  packed : put (put (put (put l 0 a) 2 b) HEADER c) MARKS-AT d ≡ (a ++ (b ++ (zeros 28 ++ (padded 1024 c ++ padded 2048 d)))) ++ t
+  packed =
+      all
+      ∙ put-front l whole
+      ∙ ap (λ (n : ℕ). whole ++ drop n l) length-whole
+      ∙ ap (λ (y : List ℕ). whole ++ y) (drop-at (zeros SIZE) t SIZE (length-zeros SIZE))
+      ∙ ap (λ (y : List ℕ). y ++ t) regroup
+
+-- what a state's bytes are, by its own counts and places
+module _ (s : State) (in-places : Counts-in s) where
+  abbrev places : List RulePlace
+  places = take (s .«rule_count») (s .rules)
+
+  abbrev marks : List Mark
+  marks = take (s .«mark_count») (s .marks)
+
+  places-many : length places ≡ s .«rule_count»
+  places-many = length-take-le (s .«rule_count») (s .rules) (omega (arith, in-places .rule-places, in-places .few-rules))
+
+  marks-many : length marks ≡ s .«mark_count»
+  marks-many = length-take-le (s .«mark_count») (s .marks) (omega (arith, in-places .mark-places, in-places .few-marks))
+
+  places-fit : length (cat placeBytesOf places) ≤ 1024
+  places-fit = omega (arith, length-cat placeBytesOf 8 place-size places, places-many, in-places .few-rules)
+
+  marks-fit : length (cat markBytes marks) ≤ 2048
+  marks-fit = omega (arith, length-cat markBytes 8 mark-size marks, marks-many, in-places .few-marks)
+
+  encoded : encode (heldOf s) ≡ bytes 2 (s .«rule_count») ++ (bytes 2 (s .«mark_count») ++ (zeros 28 ++ (padded 1024 (cat placeBytesOf places) ++ padded 2048 (cat markBytes marks))))
+  unfolding encode rulesIn
+  encoded =
+      ap (λ (n : ℕ). bytes 2 n ++ (bytes 2 (length marks) ++ (zeros 28 ++ (padded 1024 (cat ruleBytes (map (λ p. p .rule) places)) ++ padded 2048 (cat markBytes marks))))) (length-map places (λ p. p .rule) ∙ places-many)
+      ∙ ap (λ (n : ℕ). bytes 2 (s .«rule_count») ++ (bytes 2 n ++ (zeros 28 ++ (padded 1024 (cat ruleBytes (map (λ p. p .rule) places)) ++ padded 2048 (cat markBytes marks))))) marks-many
+      ∙ ap (λ (x : List ℕ). bytes 2 (s .«rule_count») ++ (bytes 2 (s .«mark_count») ++ (zeros 28 ++ (padded 1024 x ++ padded 2048 (cat markBytes marks))))) (cat-map ruleBytes (λ p. p .rule) places)
+
+  -- the stores one after the other
+  pub stored : (t l1 l2 l3 l4 l5 : List ℕ) → l1 ≡ zeros SIZE ++ t → l2 ≡ put l1 0 (bytes 2 (s .«rule_count»)) → l3 ≡ put l2 2 (bytes 2 (s .«mark_count»)) → l4 ≡ put l3 HEADER (cat placeBytesOf places) → l5 ≡ put l4 MARKS-AT (cat markBytes marks) → l5 ≡ encode (heldOf s) ++ t
+  stored t l1 l2 l3 l4 l5 e1 e2 e3 e4 e5 =
+      let a : List ℕ = bytes 2 (s .«rule_count») in
+      let b : List ℕ = bytes 2 (s .«mark_count») in
+      let c : List ℕ = cat placeBytesOf places in
+      let d : List ℕ = cat markBytes marks in
+      e5
+      ∙ ap (λ (y : List ℕ). put y MARKS-AT d) (e4 ∙ ap (λ (y : List ℕ). put y HEADER c) (e3 ∙ ap (λ (y : List ℕ). put y 2 b) (e2 ∙ ap (λ (y : List ℕ). put y 0 a) e1)))
+      ∙ packed t a b c d (length-bytes 2 _) (length-bytes 2 _) places-fit marks-fit
+      ∙ ap (λ (y : List ℕ). y ++ t) (sym encoded)

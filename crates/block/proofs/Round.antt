@@ -1,0 +1,264 @@
+-- What is encoded is read back: each place's eight bytes give its rule or mark again, since the limits keep the fields in their bytes. Assumes nothing.
+use mathlib.Core.Path.{_≡_, refl, sym, ap, _∙_, subst}
+use mathlib.Core.Bool.{Bool, true, false, cond, _&&_}
+use mathlib.Core.List.{List, [], _∷_, _++_, append-assoc}
+use Prim.Native.Nat.{ℕ, zero, suc, _+_, _-_, _*_, _^_, _≤_, _<_}
+use native.Mathlib.Nat.{not-suc-le-zero, le-of-suc-le-suc}
+use native.Mathlib.Omega.{arith}
+use lib.Dec.{T, leb, leb→le, lit<}
+use lib.IntN.{ℤ, pos, negsuc}
+use lib.Signed.{_≤ℤ_, leZ, leZ-yes}
+use lib.ListN.{length, getD, take, length-append, List·getD-append}
+use lib.Seq.{getD-append-add, take-at}
+use mir.Syntax.{w32}
+use mir.Val.{SFits, toZ, ofZ}
+use mir.ValLaws.{ofZ-fits, toZ-ofZ}
+use Rattle.codec.specs.Bytes.{little, bytes}
+use Rattle.codec.proofs.Laws.{little-same, little-bytes, length-bytes}
+use Rattle.terms.specs.declared.Operator.{Operator}
+use Rattle.terms.specs.declared.Operator.the-variants.{Within, Between, Above, Below, Anywhere}
+use Rattle.terms.specs.declared.Rule.{Rule}
+use Rattle.terms.specs.declared.Rule.the-variants.{Label, Both, Link, Via}
+use Rattle.terms.specs.declared.Atom.{Atom}
+use Rattle.terms.specs.declared.Atom.the-variants.{Has, Linked}
+use Rattle.terms.specs.declared.Mark.{Mark}
+use Rattle.terms.specs.Order.{ints}
+use Rattle.terms.specs.Tests.{and-both, true-of}
+use Rattle.terms.specs.Limits.{RULES, MARKS, DEPTHS, WITHIN-MOST, SHALLOWEST, DEEPEST, isLeft, isConcluded, isKind, isDepth}
+use Rattle.terms.specs.Operators.{operatorOf, codeOf, distanceOf, isDistance, isOperator}
+use Rattle.terms.specs.Held.{Held, emptyMark, isRule, isMarkable, isMark}
+use Rattle.terms.specs.Same.{sameRule, sameMark}
+use Rattle.terms.specs.Lists.{every, once, depthCount, limits}
+use Rattle.state.specs.Changes.{emptyHeld}
+use Rattle.block.specs.Layout.{orBetween, placeBytes, ruleBytes, ruleOf, ruleAt, markBytesOf, atomBytes, markBytes, markOf, markAt, tab, cat, zeros}
+use Rattle.block.specs.Block.{HEADER, MARKS-AT, SIZE, padded, encode, readHeld, sameBytes, unreadable, holds, good, decode}
+use Rattle.block.proofs.Tab.{tab-is, cat-get, length-cat}
+use Rattle.block.proofs.Sizes.{rule-size, mark-size, length-zeros, length-padded}
+use Rattle.block.proofs.Pack.{zeros-add}
+use Rattle.block.proofs.Equal.{sameBytes-refl, sameBytes-true}
+
+-- a block's bytes are as many as its size
+pub length-encode : (h : Held) → length (h .rules) ≤ 128 → length (h .marks) ≤ 256 → length (encode h) ≡ SIZE
+unfolding encode
+length-encode h few-rules few-marks =
+    let r : length (padded 1024 (cat ruleBytes (h .rules))) ≡ 1024 = length-padded 1024 (cat ruleBytes (h .rules)) (omega (arith, length-cat ruleBytes 8 rule-size (h .rules))) in
+    let m : length (padded 2048 (cat markBytes (h .marks))) ≡ 2048 = length-padded 2048 (cat markBytes (h .marks)) (omega (arith, length-cat markBytes 8 mark-size (h .marks))) in
+    let p : length (padded 1024 (cat ruleBytes (h .rules)) ++ padded 2048 (cat markBytes (h .marks))) ≡ 3072 = length-append (padded 1024 (cat ruleBytes (h .rules))) (padded 2048 (cat markBytes (h .marks))) ∙ omega arith in
+    rw (length-append (bytes 2 (length (h .rules))), length-append (bytes 2 (length (h .marks))), length-append (zeros 28), p, length-bytes, length-bytes, length-zeros)
+
+no-count : bytes 2 0 ≡ zeros 2
+unfolding bytes zeros
+no-count = refl
+
+-- where nothing is held all bytes are zero
+pub encode-empty : encode emptyHeld ≡ zeros SIZE
+unfolding encode cat
+encode-empty = rw (no-count, zeros-add 1024 2048, zeros-add 28 3072, zeros-add 2 3100, zeros-add 2 3102)
+
+-- ---- what the limits say
+
+pub every-at : {X : Type 0} (f : X → Bool) (xs : List X) (d : X) → T (every f xs) → (i : ℕ) → i < length xs → T (f (getD xs i d))
+unfolding every
+every-at f [] d t i h = absurd (not-suc-le-zero h)
+every-at f (x ∷ xs) d t zero h = and-both (f x) (every f xs) t .0
+every-at f (x ∷ xs) d t (suc i) h = every-at f xs d (and-both (f x) (every f xs) t .1) i (le-of-suc-le-suc h)
+
+-- the limits that the bytes lean on
+pub record Kept (h : Held) : Type 0 where
+  pub few-rules : length (h .rules) ≤ 128
+  pub few-marks : length (h .marks) ≤ 256
+  pub rules : T (every isRule (h .rules))
+  pub marks : T (every isMark (h .marks))
+
+pub kept : (h : Held) → T (limits h) → Kept h
+unfolding limits
+kept h t =
+    let rs = h .rules in
+    let ms = h .marks in
+    let alone : Bool = once sameRule rs && once sameMark ms in
+    let a = and-both (leb (length rs) RULES) (leb (length ms) MARKS && (leb (depthCount ms) DEPTHS && (every isRule rs && (every isMark ms && alone)))) t in
+    let b = and-both (leb (length ms) MARKS) (leb (depthCount ms) DEPTHS && (every isRule rs && (every isMark ms && alone))) (a .1) in
+    let c = and-both (leb (depthCount ms) DEPTHS) (every isRule rs && (every isMark ms && alone)) (b .1) in
+    let d = and-both (every isRule rs) (every isMark ms && alone) (c .1) in
+    let e = and-both (every isMark ms) alone (d .1) in
+    record { few-rules = leb→le (length rs) RULES (a .0); few-marks = leb→le (length ms) MARKS (b .0); rules = d .0; marks = e .0 }
+
+operator-back : (o : Operator) → T (isOperator o) → orBetween (operatorOf (codeOf o) (distanceOf o)) ≡ o
+operator-back (Within n) t = rw (true-of (isDistance n) t)
+operator-back Between t = refl
+operator-back Above t = refl
+operator-back Below t = refl
+operator-back Anywhere t = refl
+
+distance-fits : (o : Operator) → T (isOperator o) → distanceOf o < 256 ^ 4
+distance-fits (Within n) t = omega (arith, leb→le n WITHIN-MOST (and-both (leb 1 n) (leb n WITHIN-MOST) t .1))
+distance-fits Between t = omega arith
+distance-fits Above t = omega arith
+distance-fits Below t = omega arith
+distance-fits Anywhere t = omega arith
+
+depth-fits : (z : ℤ) → T (isDepth z) → SFits w32 z
+depth-fits (pos n) t = let l : pos n ≤ℤ DEEPEST = leZ-yes (and-both (leZ SHALLOWEST (pos n)) (leZ (pos n) DEEPEST) t .1) in record { sfits = omega ints }
+depth-fits (negsuc n) t = let l : SHALLOWEST ≤ℤ negsuc n = leZ-yes (and-both (leZ SHALLOWEST (negsuc n)) (leZ (negsuc n) DEEPEST) t .0) in record { sfits = omega ints }
+
+-- ---- a place
+
+-- the eight bytes from `at` on are those of v
+record Stands (s : List ℕ) (at : ℕ) (v : List ℕ) : Type 0 where
+  same : (j : ℕ) → j < 8 → getD s (at + j) 0 ≡ getD v j 0
+
+module _ (s : List ℕ) (at k a b c n : ℕ) (fits : n < 256 ^ 4) (h : Stands s at (k ∷ a ∷ b ∷ c ∷ bytes 4 n)) where
+  kind-back : getD s at 0 ≡ k
+  kind-back = let z : at + 0 ≡ at = omega arith in rw z at (h .same 0 (lit< tt))
+
+  number-back : little 4 s (at + 4) ≡ n
+  number-back =
+      little-same 4 s (bytes 4 n) (at + 4) 0 (λ (i : ℕ) (l : i < 4).
+      let e : at + 4 + i ≡ at + (4 + i) = omega arith in
+      let f : 4 + i ≡ suc (suc (suc (suc i))) = omega arith in
+      let g : 0 + i ≡ i = omega arith in
+      rw (e, g) (h .same (4 + i) (omega arith) ∙ ap (λ (m : ℕ). getD (k ∷ a ∷ b ∷ c ∷ bytes 4 n) m 0) f))
+      ∙ little-bytes 4 n fits
+
+  rule-place : ruleAt s at ≡ ruleOf k a b c n
+  rule-place = rw (kind-back, h .same 1 (lit< tt), h .same 2 (lit< tt), h .same 3 (lit< tt), number-back)
+
+  mark-place : markAt s at ≡ markOf k a b c (toZ w32 n)
+  mark-place = rw (kind-back, h .same 1 (lit< tt), h .same 2 (lit< tt), h .same 3 (lit< tt), number-back)
+
+rule-back : (s : List ℕ) (at : ℕ) (ρ : Rule) → T (isRule ρ) → Stands s at (ruleBytes ρ) → ruleAt s at ≡ ρ
+unfolding placeBytes ruleOf
+rule-back s at (Label o A B) t h =
+    let w = and-both (isOperator o) (isLeft A && isConcluded B) t .0 in
+    rule-place s at 2 (codeOf o) A B (distanceOf o) (distance-fits o w) h ∙ ap (λ (x : Operator). Label x A B) (operator-back o w)
+rule-back s at (Both A B C) t h = rule-place s at 3 A B C 0 (omega arith) h
+rule-back s at (Link o r s′) t h =
+    let w = and-both (isOperator o) (isKind r && isKind s′) t .0 in
+    rule-place s at 4 (codeOf o) r s′ (distanceOf o) (distance-fits o w) h ∙ ap (λ (x : Operator). Link x r s′) (operator-back o w)
+rule-back s at (Via r A B) t h = rule-place s at 5 r A B 0 (omega arith) h
+
+atom-back : (s : List ℕ) (at : ℕ) (x : Atom) (d : ℤ) → SFits w32 d → Stands s at (atomBytes x d) → markAt s at ≡ record { atom = x; depth = d }
+unfolding markBytesOf markOf
+atom-back s at (Has a A) d f h =
+    mark-place s at 6 a A 0 (ofZ w32 d) (ofZ-fits w32 d f .fits) h ∙ ap (λ (z : ℤ). record { atom = Has a A; depth = z }) (toZ-ofZ w32 d f)
+atom-back s at (Linked a r b) d f h =
+    mark-place s at 7 a r b (ofZ w32 d) (ofZ-fits w32 d f .fits) h ∙ ap (λ (z : ℤ). record { atom = Linked a r b; depth = z }) (toZ-ofZ w32 d f)
+
+mark-back : (s : List ℕ) (at : ℕ) (m : Mark) → T (isMark m) → Stands s at (markBytes m) → markAt s at ≡ m
+mark-back s at m t h =
+    atom-back s at (m .atom) (m .depth) (depth-fits (m .depth) (and-both (isMarkable (m .atom)) (isDepth (m .depth)) t .1)) h
+
+-- a number behind the n bytes p
+count-back : (k x n : ℕ) (p q : List ℕ) → length p ≡ n → x < 256 ^ k → little k (p ++ (bytes k x ++ q)) n ≡ x
+count-back k x n p q e h =
+    little-same k _ (bytes k x) n 0 (λ (i : ℕ) (l : i < k).
+    let z : 0 + i ≡ i = omega arith in
+    rw (z, ← e) (getD-append-add p (bytes k x ++ q) i 0 ∙ List·getD-append (bytes k x) q 0 i (rw length-bytes l)))
+    ∙ little-bytes k x h
+
+-- ---- the whole block
+
+module _ (h : Held) (within : T (limits h)) (t : List ℕ) where
+  abbrev k : Kept h
+  k = kept h within
+
+  abbrev block : List ℕ
+  block = encode h ++ t
+
+  abbrev front : List ℕ
+  front = bytes 2 (length (h .rules)) ++ (bytes 2 (length (h .marks)) ++ zeros 28)
+
+  abbrev rule-bytes : List ℕ
+  rule-bytes = cat ruleBytes (h .rules)
+
+  abbrev mark-bytes : List ℕ
+  mark-bytes = cat markBytes (h .marks)
+
+  abbrev behind-marks : List ℕ
+  behind-marks = zeros (2048 - length mark-bytes) ++ t
+
+  abbrev behind-rules : List ℕ
+  behind-rules = zeros (1024 - length rule-bytes) ++ (mark-bytes ++ behind-marks)
+
+  to-rules : block ≡ front ++ (rule-bytes ++ behind-rules)
+  unfolding encode
+  to-rules = simp append-assoc
+
+  to-marks : block ≡ (front ++ padded 1024 rule-bytes) ++ (mark-bytes ++ behind-marks)
+  unfolding encode
+  to-marks = simp append-assoc
+
+  length-front : length front ≡ HEADER
+  length-front = simp (length-append, length-bytes, length-zeros)
+
+  length-head : length (front ++ padded 1024 rule-bytes) ≡ MARKS-AT
+  length-head =
+      length-append front (padded 1024 rule-bytes)
+      ∙ omega (arith, length-front, length-padded 1024 rule-bytes (omega (arith, k .few-rules, length-cat ruleBytes 8 rule-size (h .rules))))
+
+  rule-stands : (i : ℕ) (d : Rule) → i < length (h .rules) → Stands block (HEADER + 8 * i) (ruleBytes (getD (h .rules) i d))
+  rule-stands i d l = record {
+    same = λ j m.
+        let z : HEADER + 8 * i + j ≡ length front + (8 * i + j) = omega (arith, length-front) in
+        ap (λ (x : List ℕ). getD x (HEADER + 8 * i + j) 0) to-rules
+        ∙ ap (λ (n : ℕ). getD (front ++ (rule-bytes ++ behind-rules)) n 0) z
+        ∙ getD-append-add front (rule-bytes ++ behind-rules) (8 * i + j) 0
+        ∙ cat-get ruleBytes 8 rule-size (h .rules) behind-rules i j d l m;
+  }
+
+  mark-stands : (i : ℕ) (d : Mark) → i < length (h .marks) → Stands block (MARKS-AT + 8 * i) (markBytes (getD (h .marks) i d))
+  mark-stands i d l = record {
+    same = λ j m.
+        let z : MARKS-AT + 8 * i + j ≡ length (front ++ padded 1024 rule-bytes) + (8 * i + j) = omega (arith, length-head) in
+        ap (λ (x : List ℕ). getD x (MARKS-AT + 8 * i + j) 0) to-marks
+        ∙ ap (λ (n : ℕ). getD ((front ++ padded 1024 rule-bytes) ++ (mark-bytes ++ behind-marks)) n 0) z
+        ∙ getD-append-add (front ++ padded 1024 rule-bytes) (mark-bytes ++ behind-marks) (8 * i + j) 0
+        ∙ cat-get markBytes 8 mark-size (h .marks) behind-marks i j d l m;
+  }
+
+  rule-count : little 2 block 0 ≡ length (h .rules)
+  unfolding encode
+  rule-count = rw append-assoc (count-back 2 (length (h .rules)) 0 [] _ refl (omega (arith, k .few-rules)))
+
+  mark-count : little 2 block 2 ≡ length (h .marks)
+  unfolding encode
+  mark-count =
+      rw (append-assoc, append-assoc) (count-back 2 (length (h .marks)) 2 (bytes 2 (length (h .rules))) _ (length-bytes 2 (length (h .rules))) (omega (arith, k .few-marks)))
+
+  -- what is encoded is read back
+  pub read-encode : readHeld block ≡ h
+  unfolding readHeld
+  read-encode =
+      ap (λ (n : ℕ). record { rules = tab (λ i. ruleAt block (HEADER + 8 * i)) n; marks = tab (λ i. markAt block (MARKS-AT + 8 * i)) (little 2 block 2); settings = tt }) rule-count
+      ∙ ap (λ (n : ℕ). record { rules = tab (λ i. ruleAt block (HEADER + 8 * i)) (length (h .rules)); marks = tab (λ i. markAt block (MARKS-AT + 8 * i)) n; settings = tt }) mark-count
+      ∙ ap (λ (x : List Rule). record { rules = x; marks = tab (λ i. markAt block (MARKS-AT + 8 * i)) (length (h .marks)); settings = tt })
+      (tab-is (λ i. ruleAt block (HEADER + 8 * i)) (h .rules) (Both 0 0 0) (λ i l. rule-back block (HEADER + 8 * i) (getD (h .rules) i (Both 0 0 0)) (every-at isRule (h .rules) (Both 0 0 0) (k .rules) i l) (rule-stands i (Both 0 0 0) l)))
+      ∙ ap (λ (y : List Mark). record { rules = h .rules; marks = y; settings = tt })
+      (tab-is (λ i. markAt block (MARKS-AT + 8 * i)) (h .marks) emptyMark (λ i l. mark-back block (MARKS-AT + 8 * i) (getD (h .marks) i emptyMark) (every-at isMark (h .marks) emptyMark (k .marks) i l) (mark-stands i emptyMark l)))
+
+  good-encode : good block ≡ true
+  unfolding good
+  good-encode =
+      let l : limits (readHeld block) ≡ true = ap limits read-encode ∙ true-of (limits h) within in
+      let e : encode (readHeld block) ≡ take SIZE block = ap encode read-encode ∙ sym (take-at (encode h) t SIZE (length-encode h (k .few-rules) (k .few-marks))) in
+      rw l (subst (λ (x : List ℕ). sameBytes (encode (readHeld block)) x ≡ true) e (sameBytes-refl (encode (readHeld block))))
+
+  -- and so a block that encodes what is within the limits holds it
+  pub decode-encode : decode block ≡ holds h
+  unfolding decode
+  decode-encode = rw good-encode (ap holds read-encode)
+
+-- a block that holds something is its encoding, within the limits
+pub decode-holds : (b : List ℕ) (h : Held) → decode b ≡ holds h → T (limits h) × (take SIZE b ≡ encode h)
+unfolding decode good
+decode-holds b h e = go (limits (readHeld b) && sameBytes (encode (readHeld b)) (take SIZE b)) (λ t. t) e
+  where
+    go : (g : Bool) → (T g → T (limits (readHeld b) && sameBytes (encode (readHeld b)) (take SIZE b))) → cond g (holds (readHeld b)) unreadable ≡ holds h → T (limits h) × (take SIZE b ≡ encode h)
+    go true f e =
+        let w = and-both (limits (readHeld b)) (sameBytes (encode (readHeld b)) (take SIZE b)) (f tt) in
+        let r : readHeld b ≡ h = cc in
+        (subst (λ (x : Held). T (limits x)) r (w .0), sym (sameBytes-true (encode (readHeld b)) (take SIZE b) (w .1)) ∙ ap encode r)
+    go false f e = let z : _≡_ {A = ℕ} 0 1 = cc in absurd (differ z)
+      where
+        differ : _≡_ {A = ℕ} 0 1 → ⊥
+        differ z = omega arith

@@ -1,0 +1,61 @@
+-- Each arm lays the bytes of its variant.
+use borrow.Author.Needs.{needs}
+use mathlib.Core.Path.{sym, ap, _∙_}
+use lib.IntN.{ℤ}
+use mir.Syntax.{w32}
+use mir.Val.{SFits}
+use mir.ValLaws.{toZ-ofZ}
+use Rattle.codec.specs.Bytes.{put}
+use Rattle.terms.specs.declared.Atom.{Atom}
+use Rattle.block.specs.Layout.{markBytesOf, atomBytes}
+use Rattle.block.proofs.put_mark.Statement.{statement}
+use Rattle.block.proofs.put_mark.Tie as tie
+
+enum-known-atom : tie.Need-enum-known-atom
+enum-known-atom c = search needs
+
+put-mark-place-requires : tie.Need-put-mark-place-requires
+put-mark-place-requires c κs = search needs
+
+enum-known-atom-2 : tie.Need-enum-known-atom-2
+enum-known-atom-2 c = search needs
+
+put-mark-place-requires-2 : tie.Need-put-mark-place-requires-2
+put-mark-place-requires-2 c κs = search needs
+
+same-length : tie.Need-same-length
+same-length c = search needs
+
+returns : tie.Need-returns
+returns c = let s = c .before .before .before .before .before .before .before .before .before in
+    let a = s .args in
+    let g = c .before .before .before .before .before .atom .given in
+    let f : SFits w32 (a .mark .depth) = search needs in
+    c .before .before .put-mark-place .ensures
+    ∙ ap (λ (z : ℤ). put (a .b .now) (a .at) (markBytesOf 6 (g .0 .0) (g .0 .1 .0) 0 z)) (toZ-ofZ w32 (a .mark .depth) f)
+    ∙ ap (λ (x : Atom). put (a .b .now) (a .at) (atomBytes x (a .mark .depth))) (sym (g .1))
+
+same-length-2 : tie.Need-same-length-2
+same-length-2 c = search needs
+
+returns-2 : tie.Need-returns-2
+returns-2 c = let s = c .before .before .before .before .before .before .before .before .before in
+    let a = s .args in
+    let g = c .before .before .before .before .before .atom2 .given in
+    let f : SFits w32 (a .mark .depth) = search needs in
+    c .before .before .put-mark-place2 .ensures
+    ∙ ap (λ (z : ℤ). put (a .b .now) (a .at) (markBytesOf 7 (g .0 .0) (g .0 .1 .0) (g .0 .1 .1 .0) z)) (toZ-ofZ w32 (a .mark .depth) f)
+    ∙ ap (λ (x : Atom). put (a .b .now) (a .at) (atomBytes x (a .mark .depth))) (sym (g .1))
+
+pub put-mark-spec : {M : Type 1} → statement M
+put-mark-spec =
+    tie.close
+    (tie.spec
+    enum-known-atom
+    put-mark-place-requires
+    enum-known-atom-2
+    put-mark-place-requires-2
+    same-length
+    returns
+    same-length-2
+    returns-2)

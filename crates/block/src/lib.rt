@@ -1,0 +1,261 @@
+// The state block: loaded into a state and stored from one.
+ghost use mathlib.Core.Path.{_≡_};
+ghost use mathlib.Core.List.{[], _∷_, _++_};
+ghost use Prim.Native.Nat.{_+_, _≤_};
+ghost use lib.ListN.{length, take, drop};
+ghost use Rattle.codec.specs.Bytes.{put};
+ghost use Rattle.terms.specs.Operators.{operatorOf};
+ghost use Rattle.state.specs.State.{Counts-in, heldOf};
+ghost use Rattle.block.specs.Layout.{orBetween, placeBytes, ruleBytes, ruleOf, ruleAt, markBytesOf, markBytes, markOf, markAt, cat, zeros};
+ghost use Rattle.block.specs.Block.{encode, Loaded-as};
+ghost use Rattle.block.specs.Places.{placeFrom, markFrom, placeBytesOf, Filled, Not-good};
+use state::State;
+use terms::Atom;
+use terms::MARKS;
+use terms::Mark;
+use terms::Operator;
+use terms::OperatorRead;
+use terms::RULES;
+use terms::Rule;
+use terms::RulePlace;
+
+pub const SIZE: usize = 3104;
+
+const HEADER: usize = 32;
+
+const MARKS_AT: usize = 1056;
+
+// What a block holds; where it is not good the state is of no use.
+pub struct Loaded {
+    pub good: bool,
+    pub state: State,
+}
+
+// What no operator is stored as is read as BETWEEN; the comparison in `load` finds it.
+fn operator_of(code: u8, n: u32) -> Operator
+    ensures { λ r. ⌜ r ≡ orBetween (operatorOf code n) ⌝ }
+{
+    match Operator::new(code, n) {
+        OperatorRead::Valid(operator) => operator,
+        OperatorRead::Invalid => Operator::BETWEEN,
+    }
+}
+
+fn rule_of(kind: u8, a: u8, b: u8, c: u8, n: u32) -> Rule
+    ensures { λ r. ⌜ r ≡ ruleOf kind a b c n ⌝ }
+{
+    match kind {
+        2 => Rule::Label(operator_of(a, n), b, c),
+        3 => Rule::Both(a, b, c),
+        4 => Rule::Link(operator_of(a, n), b, c),
+        _ => Rule::Via(a, b, c),
+    }
+}
+
+fn rule_at(b: &[u8], at: usize) -> Rule
+    requires { ⌜ at + 8 ≤ length (now b) ⌝ }
+    ensures { λ r. ⌜ r ≡ ruleAt (now (b .entry)) at ⌝ }
+{
+    let n = codec::u32_at(b, at + 4);
+    rule_of(b[at], b[at + 1], b[at + 2], b[at + 3], n)
+}
+
+fn mark_of(kind: u8, a: u8, b: u8, c: u8, depth: i32) -> Mark
+    ensures { λ r. ⌜ r ≡ markOf kind a b c depth ⌝ }
+{
+    if kind == 6 {
+        return Mark {
+            atom: Atom::Has(a, b),
+            depth,
+        };
+    }
+    Mark {
+        atom: Atom::Linked(a, b, c),
+        depth,
+    }
+}
+
+fn mark_at(b: &[u8], at: usize) -> Mark
+    requires { ⌜ at + 8 ≤ length (now b) ⌝ }
+    ensures { λ r. ⌜ r ≡ markAt (now (b .entry)) at ⌝ }
+{
+    let depth = codec::i32_at(b, at + 4);
+    mark_of(b[at], b[at + 1], b[at + 2], b[at + 3], depth)
+}
+
+// The first half of a place: its kind and three fields.
+fn put_fields(s: &mut [u8], at: usize, kind: u8, a: u8, b: u8, c: u8)
+    requires { ⌜ at + 4 ≤ length (now s) ⌝ }
+    ensures { λ _. ⌜ now (s .exit) ≡ put (now (s .entry)) at (kind ∷ a ∷ b ∷ c ∷ []) ⌝ }
+{
+    s[at] = kind;
+    s[at + 1] = a;
+    s[at + 2] = b;
+    s[at + 3] = c;
+}
+
+fn put_rule_place(s: &mut [u8], at: usize, kind: u8, a: u8, b: u8, c: u8, n: u32)
+    requires { ⌜ at + 8 ≤ length (now s) ⌝ }
+    ensures { λ _. ⌜ now (s .exit) ≡ put (now (s .entry)) at (placeBytes kind a b c n) ⌝ }
+{
+    put_fields(s, at, kind, a, b, c);
+    codec::put_u32(s, at + 4, n);
+}
+
+fn put_rule(b: &mut [u8], at: usize, rule: Rule)
+    requires { ⌜ at + 8 ≤ length (now b) ⌝ }
+    ensures { λ _. ⌜ now (b .exit) ≡ put (now (b .entry)) at (ruleBytes rule) ⌝ }
+{
+    match rule {
+        Rule::Label(o, left, label) => put_rule_place(
+            b,
+            at,
+            2,
+            o.code(),
+            left,
+            label,
+            o.distance(),
+        ),
+        Rule::Both(left, right, label) => put_rule_place(b, at, 3, left, right, label, 0),
+        Rule::Link(o, left, kind) => put_rule_place(b, at, 4, o.code(), left, kind, o.distance()),
+        Rule::Via(kind, left, label) => put_rule_place(b, at, 5, kind, left, label, 0),
+    }
+}
+
+fn put_mark_place(s: &mut [u8], at: usize, kind: u8, a: u8, b: u8, c: u8, depth: i32)
+    requires { ⌜ at + 8 ≤ length (now s) ⌝ }
+    ensures { λ _. ⌜ now (s .exit) ≡ put (now (s .entry)) at (markBytesOf kind a b c depth) ⌝ }
+{
+    put_fields(s, at, kind, a, b, c);
+    codec::put_i32(s, at + 4, depth);
+}
+
+fn put_mark(b: &mut [u8], at: usize, mark: Mark)
+    requires { ⌜ at + 8 ≤ length (now b) ⌝ }
+    ensures { λ _. ⌜ now (b .exit) ≡ put (now (b .entry)) at (markBytes mark) ⌝ }
+{
+    let atom = mark.atom;
+    let depth = mark.depth;
+    match atom {
+        Atom::Has(item, label) => put_mark_place(b, at, 6, item, label, 0, depth),
+        Atom::Linked(from, kind, to) => put_mark_place(b, at, 7, from, kind, to, depth),
+    }
+}
+
+// A free place is zero bytes.
+fn clear(b: &mut [u8])
+    requires { ⌜ 3104 ≤ length (now b) ⌝ }
+    ensures { λ _. ⌜ now (b .exit) ≡ zeros 3104 ++ drop 3104 (now (b .entry)) ⌝ }
+{
+    for i in 0..SIZE {
+        b[i] = 0;
+    }
+}
+
+fn store_rules(b: &mut [u8], rules: [RulePlace; 128], n: usize)
+    requires { ⌜ (n ≤ 128) × (3104 ≤ length (now b)) ⌝ }
+    ensures { λ _. ⌜ now (b .exit) ≡ put (now (b .entry)) 32 (cat placeBytesOf (take n rules)) ⌝ }
+{
+    for i in 0..n {
+        let place = rules[i];
+        let rule = place.rule;
+        put_rule(b, HEADER + 8 * i, rule);
+    }
+}
+
+fn store_marks(b: &mut [u8], marks: [Mark; 256], n: usize)
+    requires { ⌜ (n ≤ 256) × (3104 ≤ length (now b)) ⌝ }
+    ensures { λ _. ⌜ now (b .exit) ≡ put (now (b .entry)) 1056 (cat markBytes (take n marks)) ⌝ }
+{
+    for i in 0..n {
+        let mark = marks[i];
+        put_mark(b, MARKS_AT + 8 * i, mark);
+    }
+}
+
+fn load_rules(b: &[u8], n: usize) -> [RulePlace; 128]
+    requires { ⌜ (n ≤ 128) × (3104 ≤ length (now b)) ⌝ }
+    ensures { λ r. ⌜ Filled 128 n (placeFrom (now (b .entry))) r ⌝ }
+{
+    let place = RulePlace::EMPTY;
+    let mut out = [place; 128];
+    for i in 0..n {
+        let rule = rule_at(b, HEADER + 8 * i);
+        out[i] = RulePlace { rule };
+    }
+    out
+}
+
+fn load_marks(b: &[u8], n: usize) -> [Mark; 256]
+    requires { ⌜ (n ≤ 256) × (3104 ≤ length (now b)) ⌝ }
+    ensures { λ r. ⌜ Filled 256 n (markFrom (now (b .entry))) r ⌝ }
+{
+    let mark = Mark::EMPTY;
+    let mut out = [mark; 256];
+    for i in 0..n {
+        out[i] = mark_at(b, MARKS_AT + 8 * i);
+    }
+    out
+}
+
+// The bytes behind the block stay as they are.
+pub fn store(block: &mut [u8], state: State)
+    requires { ⌜ Counts-in state × (3104 ≤ length (now block)) ⌝ }
+    ensures { λ _. ⌜ now (block .exit) ≡ encode (heldOf state) ++ drop 3104 (now (block .entry)) ⌝ }
+{
+    let rule_count = state.rule_count;
+    let mark_count = state.mark_count;
+    let rules = state.rules;
+    let marks = state.marks;
+    clear(block);
+    codec::put_u16(block, 0, rule_count as u16);
+    codec::put_u16(block, 2, mark_count as u16);
+    store_rules(block, rules, rule_count);
+    store_marks(block, marks, mark_count);
+}
+
+// Behind a call, so that no proof writes out the bytes.
+fn blank() -> [u8; SIZE]
+    ensures { λ r. ⌜ 3104 ≡ length r ⌝ }
+{
+    [0u8; SIZE]
+}
+
+// What is told of a block that is not good.
+fn not_good() -> Loaded
+    ensures { λ r. ⌜ Not-good r ⌝ }
+{
+    let state = State::empty();
+    Loaded { good: false, state }
+}
+
+// A block is good where it is the encoding of what it holds: to store that again and compare tests every byte.
+pub fn load(block: &[u8]) -> Loaded
+    requires { ⌜ 3104 ≤ length (now block) ⌝ }
+    ensures { λ r. ⌜ Loaded-as (now (block .entry)) r ⌝ }
+{
+    let rule_count = codec::u16_at(block, 0) as usize;
+    let mark_count = codec::u16_at(block, 2) as usize;
+    if RULES < rule_count {
+        return not_good();
+    }
+    if MARKS < mark_count {
+        return not_good();
+    }
+    let rules = load_rules(block, rule_count);
+    let marks = load_marks(block, mark_count);
+    let state = State {
+        rules,
+        rule_count,
+        marks,
+        mark_count,
+    };
+    let within = state.within_limits();
+    if !within {
+        return not_good();
+    }
+    let mut copy = blank();
+    store(&mut copy, state);
+    let good = check::same(&copy, &block[..SIZE]);
+    Loaded { good, state }
+}

@@ -1,0 +1,311 @@
+-- What marks and rules decide, by the interpretations that satisfy them; at most one reply; and the reply, computed. Assumes nothing.
+use mathlib.Core.Path.{_≡_, refl, sym, ap, _∙_, subst}
+use mathlib.Core.Logic.{_⊎_, inl, inr, ⊎-elim, _↔_}
+use mathlib.Core.Bool.{Bool, true, false, not, cond, _&&_, _||_, true≢false}
+use mathlib.Core.List.{List, [], _∷_, _++_, List·Memᴰ·cases-cons, List·Memᴰ·not-nil}
+use Prim.Native.Nat.{ℕ, zero, suc, _≤_, _<_, _+_}
+use native.Mathlib.Omega.{arith}
+use native.Mathlib.Decide.{decLt, ℕ-discrete}
+use lib.Dec.{T}
+use lib.IntN.{ℤ, pos, negsuc}
+use lib.Signed.{_≤ℤ_, _<ℤ_, leZ, leZ-yes}
+use lib.ListN.{length}
+use Rattle.terms.specs.declared.Rule.{Rule}
+use Rattle.terms.specs.declared.Atom.{Atom}
+use Rattle.terms.specs.declared.Atom.the-variants.{Has, Linked}
+use Rattle.terms.specs.declared.Mark.{Mark}
+use Rattle.terms.specs.Order.{ints, suc-is}
+use Rattle.terms.specs.Tests.{and-both, or-one, or-left, or-right, true-of, of-true, false-of}
+use Rattle.terms.specs.Limits.{ITEMS, EVERY, NEVER, NO-TOP, NO-BOTTOM, SHALLOWEST, DEEPEST, isDepth}
+use Rattle.terms.specs.Held.{_∈_, Held, InRange, isMarkable, isMark}
+use Rattle.terms.specs.Model.{Least, by-mark, by-every, by-rule}
+use Rattle.terms.specs.Depths.{Derived}
+use Rattle.terms.specs.Interpretations.{Interpretation, Satisfies, true-in-all}
+use Rattle.terms.specs.Spans.{Run, Longest}
+use Rattle.line.specs.Cuts.{upto, upto-length, cuts-asc, cuts-only}
+use Rattle.line.specs.Intervals.{cutsOf, interval, count, met}
+use Rattle.line.specs.Code.{cuts-within}
+use Rattle.spans.specs.Runs.{runs}
+use Rattle.spans.specs.Longest.{longest-one, runs-longest}
+use Rattle.verdicts.specs.Reading.{anyBelow, Lookup, absent, first, lowestOf}
+use Rattle.tables.specs.Saturate.{Fact, fact, mem}
+use Rattle.tables.specs.Executed.{model, exact, exact-at}
+
+pub data Question : Type 0 where
+  Ask : Atom → ℤ → Question
+  SpansOf : ℕ → ℕ → Question
+
+pub data Verdict : Type 0 where
+  Yes No : Verdict
+  Spans : List Run → Verdict
+
+pub data Reply : Type 0 where
+  Contradiction : ℕ → Reply
+  Answered : Verdict → Reply
+
+pub record Lowest (h : Held) (a : ℕ) : Type 0 where
+  pub item : a < ITEMS
+  pub depth : ℤ
+  pub never : Derived h (Has a NEVER) depth
+  pub lower : (b : ℕ) (i : ℤ) → b < a → Derived h (Has b NEVER) i → ⊥
+
+abbrev pub Some : Held → Type 0
+Some h = (D : Interpretation) × Satisfies h D
+
+-- true in all
+abbrev pub InAll : Held → Atom → ℤ → Type 0
+InAll h x i = (D : Interpretation) → Satisfies h D → D x i ≡ true
+
+abbrev pub Says : Held → Question → Verdict → Type 0
+Says h (Ask x i) Yes = InAll h x i
+Says h (Ask x i) No = (D : Interpretation) × Satisfies h D × (D x i ≡ false)
+Says h (Ask x i) (Spans rs) = ⊥
+Says h (SpansOf a A) Yes = ⊥
+Says h (SpansOf a A) No = ⊥
+Says h (SpansOf a A) (Spans rs) = Longest (λ i. InAll h (Has a A) i) rs
+
+-- demand 3
+abbrev pub Decides : Held → Question → Reply → Type 0
+Decides h q (Contradiction a) = (Some h → ⊥) × Lowest h a
+Decides h q (Answered v) = Some h × Says h q v
+
+-- ---- at most one reply
+
+clash : {b : Bool} → b ≡ true → b ≡ false → ⊥
+clash e f = true≢false (sym e ∙ f)
+
+lowest-one : (h : Held) (a b : ℕ) → Lowest h a → Lowest h b → a ≡ b
+lowest-one h a b s t = go (decLt a b) (decLt b a)
+  where
+    go : Dec (a < b) → Dec (b < a) → a ≡ b
+    go (yes l) d = absurd (t .lower a (s .depth) l (s .never))
+    go (no k) (yes l) = absurd (s .lower b (t .depth) l (t .never))
+    go (no k) (no l) = omega arith
+
+says-one : (h : Held) (q : Question) (v w : Verdict) → Says h q v → Says h q w → v ≡ w
+says-one h (Ask x i) Yes Yes d e = refl
+says-one h (Ask x i) Yes No d e = absurd (clash (d (e .0) (e .1)) (e .2))
+says-one h (Ask x i) No Yes d e = absurd (clash (e (d .0) (d .1)) (d .2))
+says-one h (Ask x i) No No d e = refl
+says-one h (Ask x i) Yes (Spans rs) d e = absurd e
+says-one h (Ask x i) No (Spans rs) d e = absurd e
+says-one h (Ask x i) (Spans rs) w d e = absurd d
+says-one h (SpansOf a A) Yes w d e = absurd d
+says-one h (SpansOf a A) No w d e = absurd d
+says-one h (SpansOf a A) (Spans rs) Yes d e = absurd e
+says-one h (SpansOf a A) (Spans rs) No d e = absurd e
+says-one h (SpansOf a A) (Spans rs) (Spans ss) d e = ap Spans (longest-one (λ i. InAll h (Has a A) i) rs ss d e)
+
+pub at-most-one : (h : Held) (q : Question) (r s : Reply) → Decides h q r → Decides h q s → r ≡ s
+at-most-one h q (Contradiction a) (Contradiction b) d e = ap Contradiction (lowest-one h a b (d .1) (e .1))
+at-most-one h q (Contradiction a) (Answered w) d e = absurd (d .0 (e .0))
+at-most-one h q (Answered v) (Contradiction b) d e = absurd (e .0 (d .0))
+at-most-one h q (Answered v) (Answered w) d e = ap Answered (says-one h q v w (d .1) (e .1))
+
+-- ---- the answer
+
+-- item a has NEVER somewhere
+abbrev pub clashes : Held → List Fact → ℕ → Bool
+clashes h fs a = anyBelow (count h) (λ p. mem (fact (Has a NEVER) p) fs)
+
+abbrev pub clashOr : Lookup → Verdict → Reply
+clashOr absent v = Answered v
+clashOr (first a) v = Contradiction a
+
+abbrev pub verdict : Held → List Fact → Question → Verdict
+verdict h fs (Ask x i) = cond (mem (fact x (interval h i)) fs) Yes No
+verdict h fs (SpansOf a A) = Spans (runs (cutsOf h) (λ p. mem (fact (Has a A) p) fs))
+
+unfoldable pub answer : Held → Question → Reply
+answer h q = let fs = model h in let v = verdict h fs q in clashOr (lowestOf (clashes h fs) ITEMS 0) v
+
+data Looked (f : ℕ → Bool) (n a : ℕ) : Lookup → Type 0 where
+  none-there : ((b : ℕ) → a ≤ b → b < a + n → f b ≡ false) → Looked f n a absent
+  first-there : (b : ℕ) → a ≤ b → b < a + n → f b ≡ true → ((c : ℕ) → a ≤ c → c < b → f c ≡ false) → Looked f n a (first b)
+
+looked : (f : ℕ → Bool) (n a : ℕ) → Looked f n a (lowestOf f n a)
+looked f zero a = none-there (λ b h l. let z : ⊥ = omega arith in absurd z)
+looked f (suc n) a = go (f a) refl (looked f n (suc a))
+  where
+    start : {u : ℕ} → f a ≡ false → ((c : ℕ) → suc a ≤ c → c < u → f c ≡ false) → (c : ℕ) → a ≤ c → c < u → f c ≡ false
+    start e k c h l = pick (ℕ-discrete c a)
+      where
+        pick : Dec (c ≡ a) → f c ≡ false
+        pick (yes d) = rw d e
+        pick (no d) = k c (omega arith) l
+
+    more : {r : Lookup} → f a ≡ false → Looked f n (suc a) r → Looked f (suc n) a r
+    more e (none-there k) = none-there (λ b h l. start e k b h (omega arith))
+    more e (first-there b h l m k) = first-there b (omega arith) (omega arith) m (start e k)
+
+    go : (t : Bool) → f a ≡ t → Looked f n (suc a) (lowestOf f n (suc a)) → Looked f (suc n) a (elim t [ true ↦ first a | false ↦ lowestOf f n (suc a) ])
+    go true e w = first-there a (omega arith) (omega arith) e (λ c h l. let z : ⊥ = omega arith in absurd z)
+    go false e w = more e w
+
+any-yes : (n : ℕ) (f : ℕ → Bool) → anyBelow n f ≡ true → (p : ℕ) × (p < n) × T (f p)
+any-yes zero f e = absurd (true≢false (sym e))
+any-yes (suc n) f e = go (or-one (f n) (anyBelow n f) (subst T (sym e) tt)) (λ k. any-yes n f k)
+  where
+    t→eq : (b : Bool) → T b → b ≡ true
+    t→eq true t = refl
+    t→eq false t = absurd t
+
+    go : T (f n) ⊎ T (anyBelow n f) → (anyBelow n f ≡ true → (p : ℕ) × (p < n) × T (f p)) → (p : ℕ) × (p < suc n) × T (f p)
+    go (inl t) k = (n, omega arith, t)
+    go (inr t) k = let w = k (t→eq (anyBelow n f) t) in (w .0, omega (arith, w .1), w .2)
+
+any-no : (n : ℕ) (f : ℕ → Bool) → anyBelow n f ≡ false → (p : ℕ) → p < n → T (f p) → ⊥
+any-no zero f e p h t = let z : ⊥ = omega arith in z
+any-no (suc n) f e p h t = go (ℕ-discrete p n) (λ k l. any-no n f k p l t)
+  where
+    part : (a b : Bool) → (a || b) ≡ false → (a ≡ false) × (b ≡ false)
+    part true b e = absurd (true≢false e)
+    part false b e = (refl, e)
+
+    go : Dec (p ≡ n) → (anyBelow n f ≡ false → p < n → ⊥) → ⊥
+    go (yes d) k = subst T (part (f n) (anyBelow n f) e .0) (subst (λ q. T (f q)) d t)
+    go (no d) k = k (part (f n) (anyBelow n f) e .1) (omega arith)
+
+module _ (h : Held) (R : InRange h) where
+  -- the model read at each depth's interval
+  abbrev pub table : Interpretation
+  table x i = mem (fact x (interval h i)) (model h)
+
+  said : {x : Atom} {i : ℤ} → Derived h x i → table x i ≡ true
+  said {x} {i} d = true-of (table x i) (exact h x i .1 d)
+
+  held : (x : Atom) (i : ℤ) → table x i ≡ true → Derived h x i
+  held x i e = exact h x i .0 (of-true e)
+
+  -- it satisfies the marks and rules where NEVER is nowhere
+  pub table-satisfies : ((a : ℕ) (i : ℤ) → a < ITEMS → Derived h (Has a NEVER) i → ⊥) → Satisfies h table
+  table-satisfies f = record {
+    marks = λ m i n e. said (by-mark (record { mark = m; held = n; says = refl; at = e }));
+    every = λ a i l. said (by-every l);
+    never = λ a i l. false-of (table (Has a NEVER) i) (λ t. f a i l (exact h (Has a NEVER) i .0 t));
+    rules = λ ρ x y z j k i m n s t g d e. said (by-rule j k m n g (held x j d) (held y k e));
+  }
+
+  clash-least : (a : ℕ) → clashes h (model h) a ≡ true → (i : ℤ) × Derived h (Has a NEVER) i
+  clash-least a e =
+      let (p, l, t) = any-yes (count h) (λ p. mem (fact (Has a NEVER) p) (model h)) e in
+      let (i, d) = met h p l in
+      (i, exact-at h (Has a NEVER) p t i d)
+
+  no-clash : (a : ℕ) (i : ℤ) → clashes h (model h) a ≡ false → Derived h (Has a NEVER) i → ⊥
+  no-clash a i e d = any-no (count h) (λ p. mem (fact (Has a NEVER) p) (model h)) e (interval h i) (omega (arith, upto-length (cutsOf h) i)) (exact h (Has a NEVER) i .1 d)
+
+  ranged : (x : ℤ) → x ∈ cutsOf h → (NO-TOP <ℤ x) × (x ≤ℤ NO-BOTTOM)
+  ranged x m =
+      let w = cuts-within (h .marks) (λ k n. and-both (isMarkable (k .atom)) (isDepth (k .depth)) (R .marks k n) .1) x m in
+      (omega (ints, w .0), omega (ints, w .1))
+
+  plain : (q : Question) → Satisfies h table → Says h q (verdict h (model h) q)
+  plain (Ask x i) s = go (table x i) refl
+    where
+      go : (b : Bool) → table x i ≡ b → Says h (Ask x i) (cond b Yes No)
+      go true e = λ D S. true-in-all h R D S (held x i e)
+      go false e = (table, s, e)
+  plain (SpansOf a A) s =
+      let L = runs-longest (cutsOf h) (cuts-asc (h .marks)) ranged (λ p. mem (fact (Has a A) p) (model h)) in
+      record { apart = L .apart; exact = λ i. (λ c D S. true-in-all h R D S (exact h (Has a A) i .0 (L .exact i .0 c)), λ f. L .exact i .1 (of-true (f table s))) }
+
+  pub answer-decides : (q : Question) → Decides h q (answer h q)
+  unfolding answer
+  answer-decides q = go (looked (clashes h (model h)) ITEMS 0)
+    where
+      go : {r : Lookup} → Looked (clashes h (model h)) ITEMS 0 r → Decides h q (clashOr r (verdict h (model h) q))
+      go (none-there k) =
+          let s = table-satisfies (λ a i l d. no-clash a i (k a (omega arith) (omega arith)) d) in
+          ((table, s), plain q s)
+      go (first-there a u l e k) =
+          let (d, n) = clash-least a e in (
+            λ s. clash (true-in-all h R (s .0) (s .1) n) (s .1 .never a d (omega arith)),
+            record { item = omega arith; depth = d; never = n; lower = λ b i v m. no-clash b i (k b (omega arith) v) m },
+          )
+
+  -- ---- demand 2: the same by the least model
+
+  -- no item has NEVER anywhere
+  pub record NoNever : Type 0 where
+    pub none : (a : ℕ) (i : ℤ) → a < ITEMS → Derived h (Has a NEVER) i → ⊥
+
+  pub data Cases (q : Question) : Reply → Type 0 where
+    clear : NoNever → Cases q (Answered (verdict h (model h) q))
+    clashing : (a : ℕ) → Lowest h a → Cases q (Contradiction a)
+
+  pub reply-cases : (q : Question) → Cases q (answer h q)
+  unfolding answer
+  reply-cases q = go (looked (clashes h (model h)) ITEMS 0)
+    where
+      go : {r : Lookup} → Looked (clashes h (model h)) ITEMS 0 r → Cases q (clashOr r (verdict h (model h) q))
+      go (none-there k) = clear (record { none = λ a i l d. no-clash a i (k a (omega arith) (omega arith)) d })
+      go (first-there a u l e k) =
+          let (d, n) = clash-least a e in
+          clashing a (record { item = omega arith; depth = d; never = n; lower = λ b i v m. no-clash b i (k b (omega arith) v) m })
+
+  never-lowest : NoNever → (a : ℕ) → Lowest h a → ⊥
+  never-lowest N a l = N .none a (l .depth) (l .item) (l .never)
+
+  -- contradiction exactly if some item has NEVER, the lowest of them named
+  pub contradiction-exactly : (q : Question) (a : ℕ) → (answer h q ≡ Contradiction a) ↔ Lowest h a
+  contradiction-exactly q a = (λ e. there (reply-cases q) e, λ l. back (reply-cases q) l)
+    where
+      there : {r : Reply} → Cases q r → r ≡ Contradiction a → Lowest h a
+      there (clear N) e = let z : _≡_ {A = ℕ} 0 1 = cc in let w : ⊥ = omega arith in absurd w
+      there (clashing b l) e = let f : b ≡ a = cc in subst (Lowest h) f l
+
+      back : {r : Reply} → Cases q r → Lowest h a → r ≡ Contradiction a
+      back (clear N) l = absurd (never-lowest N a l)
+      back (clashing b k) l = ap Contradiction (lowest-one h b a k l)
+
+  -- yes exactly if no item has NEVER and the statement is in the least model; no exactly if it is not in it
+  pub yes-exactly : (x : Atom) (i : ℤ) → (answer h (Ask x i) ≡ Answered Yes) ↔ (NoNever × Derived h x i)
+  yes-exactly x i = (λ e. there (reply-cases (Ask x i)) e, λ w. back (reply-cases (Ask x i)) w)
+    where
+      said-yes : (b : Bool) → Path Reply (Answered (cond b Yes No)) (Answered Yes) → b ≡ true
+      said-yes true e = refl
+      said-yes false e = let z : _≡_ {A = ℕ} 0 1 = cc in let w : ⊥ = omega arith in absurd w
+
+      there : {r : Reply} → Cases (Ask x i) r → r ≡ Answered Yes → NoNever × Derived h x i
+      there (clear N) e = (N, held x i (said-yes (table x i) e))
+      there (clashing b l) e = let z : _≡_ {A = ℕ} 0 1 = cc in let w : ⊥ = omega arith in absurd w
+
+      back : {r : Reply} → Cases (Ask x i) r → NoNever × Derived h x i → r ≡ Answered Yes
+      back (clear N) w = ap (λ b. Answered (cond b Yes No)) (said (w .1))
+      back (clashing b l) w = absurd (never-lowest (w .0) b l)
+
+  pub no-exactly : (x : Atom) (i : ℤ) → (answer h (Ask x i) ≡ Answered No) ↔ (NoNever × (Derived h x i → ⊥))
+  no-exactly x i = (λ e. there (reply-cases (Ask x i)) e, λ w. back (reply-cases (Ask x i)) w)
+    where
+      said-no : (b : Bool) → Path Reply (Answered (cond b Yes No)) (Answered No) → b ≡ false
+      said-no false e = refl
+      said-no true e = let z : _≡_ {A = ℕ} 0 1 = cc in let w : ⊥ = omega arith in absurd w
+
+      there : {r : Reply} → Cases (Ask x i) r → r ≡ Answered No → NoNever × (Derived h x i → ⊥)
+      there (clear N) e = (N, λ d. clash (said d) (said-no (table x i) e))
+      there (clashing b l) e = let z : _≡_ {A = ℕ} 0 1 = cc in let w : ⊥ = omega arith in absurd w
+
+      back : {r : Reply} → Cases (Ask x i) r → NoNever × (Derived h x i → ⊥) → r ≡ Answered No
+      back (clear N) w = ap (λ b. Answered (cond b Yes No)) (false-of (table x i) (λ t. w .1 (held x i (true-of (table x i) t))))
+      back (clashing b l) w = absurd (never-lowest (w .0) b l)
+
+  -- a list of spans covers exactly the depths where the label is in the least model
+  pub spans-exactly : (a A : ℕ) (rs : List Run) → (answer h (SpansOf a A) ≡ Answered (Spans rs)) ↔ (NoNever × Longest (λ i. Derived h (Has a A) i) rs)
+  spans-exactly a A rs = (λ e. there (reply-cases (SpansOf a A)) e, λ w. back (reply-cases (SpansOf a A)) w)
+    where
+      has : ℕ → Bool
+      has p = mem (fact (Has a A) p) (model h)
+
+      longest : Longest (λ i. Derived h (Has a A) i) (runs (cutsOf h) has)
+      longest =
+          let L = runs-longest (cutsOf h) (cuts-asc (h .marks)) ranged has in
+          record { apart = L .apart; exact = λ i. (λ c. exact h (Has a A) i .0 (L .exact i .0 c), λ d. L .exact i .1 (exact h (Has a A) i .1 d)) }
+
+      there : {r : Reply} → Cases (SpansOf a A) r → r ≡ Answered (Spans rs) → NoNever × Longest (λ i. Derived h (Has a A) i) rs
+      there (clear N) e = let f : runs (cutsOf h) has ≡ rs = cc in (N, subst (Longest (λ i. Derived h (Has a A) i)) f longest)
+      there (clashing b l) e = let z : _≡_ {A = ℕ} 0 1 = cc in let w : ⊥ = omega arith in absurd w
+
+      back : {r : Reply} → Cases (SpansOf a A) r → NoNever × Longest (λ i. Derived h (Has a A) i) rs → r ≡ Answered (Spans rs)
+      back (clear N) w = ap (λ l. Answered (Spans l)) (longest-one (λ i. Derived h (Has a A) i) (runs (cutsOf h) has) rs longest (w .1))
+      back (clashing b l) w = absurd (never-lowest (w .0) b l)

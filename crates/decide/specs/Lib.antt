@@ -1,0 +1,5 @@
+pub mod Within
+pub mod Count
+pub mod Decide
+pub mod Worked
+pub mod Verdicts

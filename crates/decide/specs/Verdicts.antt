@@ -1,0 +1,152 @@
+-- What the lent tables say, read as the answer. Assumes nothing.
+use mathlib.Core.Path.{_≡_, refl, sym, ap, _∙_, subst}
+use mathlib.Core.Logic.{_⊎_, inl, inr, ⊎-elim}
+use mathlib.Core.Bool.{Bool, true, false, cond, _||_}
+use mathlib.Core.List.{List, [], _∷_, _++_}
+use Prim.Native.Nat.{ℕ, zero, suc, pred, _≤_, _<_, _+_, _*_, _/_, _%_}
+use native.Mathlib.Omega.{arith}
+use native.Mathlib.Decide.{decLt}
+use lib.Dec.{T, eqb}
+use lib.IntN.{ℤ}
+use lib.ListN.{length, getD, List·getD-append}
+use Rattle.terms.specs.declared.Atom.{Atom}
+use Rattle.terms.specs.declared.Atom.the-variants.{Has, Linked}
+use Rattle.terms.specs.declared.Answer.{Answer}
+use Rattle.terms.specs.declared.Answer.the-variants as Answer
+use Rattle.terms.specs.Tests.{of-true}
+use Rattle.terms.specs.Limits.{ITEMS, NEVER}
+use Rattle.terms.specs.Held.{Held, isStatement}
+use Rattle.words.specs.Bit.{bitAt}
+use Rattle.line.specs.Cuts.{upto-length, top-of, bottom-of}
+use Rattle.rows.proofs.Laws.{true-false}
+use Rattle.terms.specs.Spans.{Run, run}
+use Rattle.line.specs.Intervals.{cutsOf, interval, count}
+use Rattle.steps.specs.Concluded.{label-names, link-names}
+use Rattle.tables.specs.Saturate.{fact, mem, mem→∈}
+use Rattle.tables.specs.Executed.{model, model-low}
+use Rattle.tables.specs.Tables.{bit-of, labelEntry, linkEntry, labelTable, linkTable, label-entry, link-entry}
+use Rattle.tables.specs.Bridge.{length-tab}
+use Rattle.spans.specs.Runs.{Begun, outside, since, runsFrom, runs, hasLabel}
+use Rattle.verdicts.specs.Reading.{anyBelow, Lookup, absent, first, lowestOf, neverIn, itemOr16, clashItem, holdsIn}
+use Rattle.decide.specs.Decide.{Question, Ask, SpansOf, Verdict, Yes, No, Spans, Reply, Contradiction, Answered, clashes, clashOr, verdict, answer}
+
+-- a reply as an answer
+abbrev pub answerOf : Reply → Answer
+answerOf (Contradiction a) = Answer.Contradiction a
+answerOf (Answered Yes) = Answer.Yes
+answerOf (Answered No) = Answer.No
+answerOf (Answered (Spans rs)) = Answer.Spans (length rs)
+
+-- ---- it is the model
+
+one-or-not : (b : Bool) (x : ℕ) → x ≡ cond b 1 0 → eqb x 1 ≡ b
+one-or-not true x e = ap (λ v. eqb v 1) e
+one-or-not false x e = ap (λ v. eqb v 1) e
+
+module _ (h : Held) (few : length (cutsOf h) ≤ 192) where
+  length-labels : length (labelTable h) ≡ 3088
+  unfolding labelTable
+  length-labels = length-tab (λ e. labelEntry (model h) (e / 193) (e % 193)) 3088 0
+
+  length-links : length (linkTable h) ≡ 49408
+  unfolding linkTable
+  length-links = length-tab (λ e. linkEntry (model h) (e / 193 / 16) (e / 193 % 16) (e % 193)) 49408 0
+
+  label-bit : (t : List ℕ) (a A p : ℕ) → a < 16 → A < 64 → p < 193 → hasLabel (labelTable h ++ t) a A p ≡ mem (fact (Has a A) p) (model h)
+  unfolding labelEntry
+  label-bit t a A p l k b =
+      one-or-not (mem (fact (Has a A) p) (model h)) (bitAt (getD (labelTable h ++ t) (a * 193 + p) 0) A)
+      (ap (λ x. bitAt x A) (List·getD-append (labelTable h) t 0 (a * 193 + p) (omega (arith, length-labels)) ∙ label-entry h few a p l b) ∙ bit-of (λ A. mem (fact (Has a A) p) (model h)) 64 A k)
+
+  link-bit : (t : List ℕ) (a r b p : ℕ) → a < 16 → r < 8 → b < 16 → p < 193 → eqb (bitAt (getD (linkTable h ++ t) ((a * 16 + b) * 193 + p) 0) r) 1 ≡ mem (fact (Linked a r b) p) (model h)
+  unfolding linkEntry
+  link-bit t a r b p l k m q =
+      one-or-not (mem (fact (Linked a r b) p) (model h)) (bitAt (getD (linkTable h ++ t) ((a * 16 + b) * 193 + p) 0) r)
+      (ap (λ x. bitAt x r) (List·getD-append (linkTable h) t 0 ((a * 16 + b) * 193 + p) (omega (arith, length-links)) ∙ link-entry h few a b p l m q) ∙ bit-of (λ r. mem (fact (Linked a r b) p) (model h)) 8 r k)
+
+  -- a statement's bit at a depth's interval
+  pub holds-is : (t u : List ℕ) (x : Atom) (i : ℤ) → T (isStatement x) → holdsIn (labelTable h ++ t) (linkTable h ++ u) x (interval h i) ≡ mem (fact x (interval h i)) (model h)
+  holds-is t u (Has a A) i s = let w = label-names a A s in label-bit t a A (interval h i) (w .0) (w .1) (omega (arith, upto-length (cutsOf h) i))
+  holds-is t u (Linked a r b) i s = let w = link-names a r b s in link-bit u a r b (interval h i) (w .0) (w .1) (w .2) (omega (arith, upto-length (cutsOf h) i))
+
+  -- nothing behind the last interval
+  behind : (x : Atom) (p : ℕ) → length (cutsOf h) < p → mem (fact x p) (model h) ≡ false
+  behind x p l = go (mem (fact x p) (model h)) refl
+    where
+      go : (b : Bool) → mem (fact x p) (model h) ≡ b → b ≡ false
+      go true e = let z : ⊥ = omega (arith, model-low h (fact x p) (mem→∈ (fact x p) (model h) (of-true e))) in absurd z
+      go false e = refl
+
+  any-same : (n : ℕ) (f g : ℕ → Bool) → ((p : ℕ) → p < n → f p ≡ g p) → anyBelow n f ≡ anyBelow n g
+  any-same zero f g e = refl
+  any-same (suc n) f g e = go (f n) (g n) (e n (omega arith)) (any-same n f g (λ p l. e p (omega arith)))
+    where
+      go : (a b : Bool) → a ≡ b → anyBelow n f ≡ anyBelow n g → (a || anyBelow n f) ≡ (b || anyBelow n g)
+      go a b d k = ap (λ v. v || anyBelow n f) d ∙ ap (λ v. b || v) k
+
+  any-more : (k n : ℕ) (f : ℕ → Bool) → ((p : ℕ) → n ≤ p → f p ≡ false) → n ≤ k → anyBelow k f ≡ anyBelow n f
+  any-more zero n f e l = ap (λ m. anyBelow m f) (let z : 0 ≡ n = omega arith in z)
+  any-more (suc k) n f e l = go (decLt n (suc k)) (any-more k n f e)
+    where
+      go : Dec (n < suc k) → (n ≤ k → anyBelow k f ≡ anyBelow n f) → (f k || anyBelow k f) ≡ anyBelow n f
+      go (yes d) m = ap (λ v. v || anyBelow k f) (e k (omega arith)) ∙ m (omega arith)
+      go (no d) m = ap (λ v. anyBelow v f) (let z : suc k ≡ n = omega arith in z)
+
+  never-is : (t : List ℕ) (a : ℕ) → a < 16 → neverIn (labelTable h ++ t) a ≡ clashes h (model h) a
+  never-is t a l =
+      any-same 193 (hasLabel (labelTable h ++ t) a NEVER) (λ p. mem (fact (Has a NEVER) p) (model h)) (λ p b. label-bit t a NEVER p l (omega arith) b)
+      ∙ any-more 193 (count h) (λ p. mem (fact (Has a NEVER) p) (model h)) (λ p b. behind (Has a NEVER) p (omega arith)) (omega arith)
+
+  lowest-same : (n a : ℕ) (f g : ℕ → Bool) → ((b : ℕ) → b < a + n → f b ≡ g b) → lowestOf f n a ≡ lowestOf g n a
+  lowest-same zero a f g e = refl
+  lowest-same (suc n) a f g e = go (f a) (g a) (e a (omega arith)) (lowest-same n (suc a) f g (λ b l. e b (omega arith)))
+    where
+      go : (s t : Bool) → s ≡ t → lowestOf f n (suc a) ≡ lowestOf g n (suc a) → _≡_ {A = Lookup} (elim s [ true ↦ first a | false ↦ lowestOf f n (suc a) ]) (elim t [ true ↦ first a | false ↦ lowestOf g n (suc a) ])
+      go true true d k = refl
+      go true false d k = true-false d
+      go false true d k = true-false (sym d)
+      go false false d k = k
+
+  -- the lowest item with NEVER, by the table
+  pub clash-is : (t : List ℕ) → lowestOf (neverIn (labelTable h ++ t)) ITEMS 0 ≡ lowestOf (clashes h (model h)) ITEMS 0
+  clash-is t = lowest-same ITEMS 0 (neverIn (labelTable h ++ t)) (clashes h (model h)) (λ a l. never-is t a (omega arith))
+
+  runs-same : (cs : List ℤ) (f g : ℕ → Bool) (n p : ℕ) (b : Begun) → ((q : ℕ) → q < p + n → f q ≡ g q) → runsFrom cs f n p b ≡ runsFrom cs g n p b
+  runs-same cs f g zero p outside e = refl
+  runs-same cs f g zero p (since s) e = refl
+  runs-same cs f g (suc n) p outside e = go (f p) (g p) (e p (omega arith)) (λ c. runs-same cs f g n (suc p) c (λ q l. e q (omega arith)))
+    where
+      go : (s t : Bool) → s ≡ t → ((c : Begun) → runsFrom cs f n (suc p) c ≡ runsFrom cs g n (suc p) c)
+          → _≡_ {A = List Run} (elim s [ true ↦ runsFrom cs f n (suc p) (since p) | false ↦ runsFrom cs f n (suc p) outside ]) (elim t [ true ↦ runsFrom cs g n (suc p) (since p) | false ↦ runsFrom cs g n (suc p) outside ])
+      go true true d k = k (since p)
+      go true false d k = true-false d
+      go false true d k = true-false (sym d)
+      go false false d k = k outside
+  runs-same cs f g (suc n) p (since s) e = go (f p) (g p) (e p (omega arith)) (λ c. runs-same cs f g n (suc p) c (λ q l. e q (omega arith)))
+    where
+      go : (u t : Bool) → u ≡ t → ((c : Begun) → runsFrom cs f n (suc p) c ≡ runsFrom cs g n (suc p) c)
+          → _≡_ {A = List Run} (elim u [ true ↦ runsFrom cs f n (suc p) (since s) | false ↦ run (top-of cs s) (bottom-of cs (pred p)) ∷ runsFrom cs f n (suc p) outside ])
+          (elim t [ true ↦ runsFrom cs g n (suc p) (since s) | false ↦ run (top-of cs s) (bottom-of cs (pred p)) ∷ runsFrom cs g n (suc p) outside ])
+      go true true d k = k (since s)
+      go true false d k = true-false d
+      go false true d k = true-false (sym d)
+      go false false d k = ap (λ rs. run (top-of cs s) (bottom-of cs (pred p)) ∷ rs) (k outside)
+
+  pub runs-is : (t : List ℕ) (a A : ℕ) → a < 16 → A < 64 → runs (cutsOf h) (hasLabel (labelTable h ++ t) a A) ≡ runs (cutsOf h) (λ p. mem (fact (Has a A) p) (model h))
+  unfolding runs
+  runs-is t a A l k = runs-same (cutsOf h) (hasLabel (labelTable h ++ t) a A) (λ p. mem (fact (Has a A) p) (model h)) (count h) 0 outside (λ q b. label-bit t a A q l k (omega arith))
+
+  -- ---- the answer, by the tables
+
+  pub ask-is : (t u : List ℕ) (x : Atom) (i : ℤ) → T (isStatement x) → answer h (Ask x i) ≡ clashOr (lowestOf (neverIn (labelTable h ++ t)) ITEMS 0) (cond (holdsIn (labelTable h ++ t) (linkTable h ++ u) x (interval h i)) Yes No)
+  unfolding answer
+  ask-is t u x i s = sym (ap (λ l. clashOr l (cond (holdsIn (labelTable h ++ t) (linkTable h ++ u) x (interval h i)) Yes No)) (clash-is t) ∙ ap (λ b. clashOr (lowestOf (clashes h (model h)) ITEMS 0) (cond b Yes No)) (holds-is t u x i s))
+
+  pub spans-is : (t : List ℕ) (a A : ℕ) → a < 16 → A < 64 → answer h (SpansOf a A) ≡ clashOr (lowestOf (neverIn (labelTable h ++ t)) ITEMS 0) (Spans (runs (cutsOf h) (hasLabel (labelTable h ++ t) a A)))
+  unfolding answer
+  spans-is t a A l k = sym (ap (λ o. clashOr o (Spans (runs (cutsOf h) (hasLabel (labelTable h ++ t) a A)))) (clash-is t) ∙ ap (λ rs. clashOr (lowestOf (clashes h (model h)) ITEMS 0) (Spans rs)) (runs-is t a A l k))
+
+-- the number read off the table says which
+pub clash-cases : (l : Lookup) → (a : ℕ) → itemOr16 l ≡ a → ((b : ℕ) → l ≡ first b → b < 16) → (v : Verdict) → ((16 ≤ a) × (clashOr l v ≡ Answered v)) ⊎ ((a < 16) × (clashOr l v ≡ Contradiction a))
+clash-cases absent a e f v = inl (omega arith, refl)
+clash-cases (first b) a e f v = inr (let w = f b refl in omega arith, ap Contradiction e)

@@ -1,0 +1,93 @@
+-- The cases that 01 marks P: one table, one theorem, about the definition by interpretations over all integers. Assumes nothing.
+use mathlib.Core.Path.{_≡_, refl, sym, subst}
+use mathlib.Core.Logic.{_⊎_, inl, inr, ⊎-elim}
+use mathlib.Core.Bool.{Bool, true, false, _&&_}
+use mathlib.Core.List.{List, [], _∷_, List·Memᴰ·cases-cons, List·Memᴰ·not-nil}
+use Prim.Native.Nat.{ℕ}
+use lib.Dec.{T}
+use lib.IntN.{ℤ, pos, negsuc}
+use Rattle.terms.specs.declared.Operator.{Operator}
+use Rattle.terms.specs.declared.Operator.the-variants.{Within, Between, Above, Below, Anywhere}
+use Rattle.terms.specs.declared.Rule.{Rule}
+use Rattle.terms.specs.declared.Rule.the-variants.{Label, Both, Link, Via}
+use Rattle.terms.specs.declared.Atom.{Atom}
+use Rattle.terms.specs.declared.Atom.the-variants.{Has, Linked}
+use Rattle.terms.specs.declared.Mark.{Mark}
+use Rattle.terms.specs.Limits.{EVERY, NEVER, NO-TOP, NO-BOTTOM}
+use Rattle.terms.specs.Held.{_∈_, Held}
+use Rattle.terms.specs.Lists.{some, every, once, depthCount, limits}
+use Rattle.terms.specs.Spans.{Run, run}
+use Rattle.tables.specs.Executed.{model}
+use Rattle.spans.specs.Runs.{runs}
+use Rattle.decide.specs.Within.{within, in-range}
+use Rattle.decide.specs.Decide.{Question, Ask, SpansOf, Yes, No, Spans, Reply, Contradiction, Answered, Decides, answer, answer-decides}
+
+-- a row: what is held, what is asked, and the reply that 01 gives
+pub record Case : Type 0 where
+  pub held : Held
+  pub question : Question
+  pub reply : Reply
+
+abbrev pub on : List Rule → List Mark → Question → Reply → Case
+on rs ms q r = record { held = record { rules = rs; marks = ms; settings = tt }; question = q; reply = r }
+
+abbrev pub label : ℕ → ℕ → ℤ → Mark
+label a A i = record { atom = Has a A; depth = i }
+
+abbrev pub link : ℕ → ℕ → ℕ → ℤ → Mark
+link a r b i = record { atom = Linked a r b; depth = i }
+
+abbrev pub four : List Mark
+four = label 0 1 (negsuc 2) ∷ label 0 1 (negsuc 1) ∷ label 0 1 (pos 0) ∷ label 0 1 (pos 4) ∷ []
+
+abbrev pub two : List Mark
+two = label 0 1 (pos 104) ∷ label 0 1 (pos 123) ∷ []
+
+-- an operator on a set of depths, asked as spans, so that the row speaks of every integer
+abbrev pub gives : Operator → List Mark → List Run → Case
+gives o ms rs = on (Label o 1 2 ∷ []) ms (SpansOf 0 2) (Answered (Spans rs))
+
+abbrev pub contrary : List Rule
+contrary = Label (Within 1) EVERY 1 ∷ Label (Within 1) 1 NEVER ∷ []
+
+abbrev pub cases : List Case
+cases =
+    gives (Within 3) four (run (negsuc 2) (pos 0) ∷ run (pos 4) (pos 4) ∷ [])
+    ∷ gives (Within 1) four (run (negsuc 2) (negsuc 1) ∷ run (pos 0) (pos 0) ∷ run (pos 4) (pos 4) ∷ [])
+    ∷ gives Between four (run (negsuc 2) (pos 4) ∷ [])
+    ∷ gives Above four (run NO-TOP (pos 4) ∷ [])
+    ∷ gives Below four (run (negsuc 2) NO-BOTTOM ∷ [])
+    ∷ gives (Within 20) two (run (pos 104) (pos 123) ∷ [])
+    ∷ gives (Within 19) two (run (pos 104) (pos 104) ∷ run (pos 123) (pos 123) ∷ [])
+    ∷ on [] [] (Ask (Has 0 EVERY) (pos 0)) (Answered Yes)
+    ∷ on [] [] (SpansOf 0 EVERY) (Answered (Spans (run NO-TOP NO-BOTTOM ∷ [])))
+    ∷ on [] [] (Ask (Has 0 1) (pos 0)) (Answered No)
+    ∷ on [] [] (SpansOf 0 1) (Answered (Spans []))
+    ∷ on contrary [] (Ask (Has 0 1) (pos 0)) (Contradiction 0)
+    ∷ on contrary [] (SpansOf 0 1) (Contradiction 0)
+    ∷ on (Via 0 2 3 ∷ []) (link 0 0 1 (pos 10) ∷ label 1 2 (pos 10) ∷ []) (Ask (Has 0 3) (pos 10)) (Answered Yes)
+    ∷ on (Via 0 2 3 ∷ []) (link 0 0 1 (pos 10) ∷ label 1 2 (pos 11) ∷ []) (Ask (Has 0 3) (pos 11)) (Answered No)
+    ∷ on (Via 0 2 3 ∷ []) (link 0 0 1 (pos 10) ∷ label 1 2 (pos 11) ∷ []) (SpansOf 0 3) (Answered (Spans []))
+    ∷ []
+
+-- ---- computed, and so decided
+
+abbrev Checked : List Case → Type 0
+Checked [] = Unit {0}
+Checked (c ∷ cs) = T (limits (c .held)) × (answer (c .held) (c .question) ≡ c .reply) × Checked cs
+
+checked : Checked cases
+unfolding limits every once some depthCount answer model runs
+checked = (tt, refl, (tt, refl, (tt, refl, (tt, refl, (tt, refl, (tt, refl, (tt, refl, (tt, refl, (tt, refl, (tt, refl, (tt, refl, (tt, refl, (tt, refl, (tt, refl, (tt, refl, (tt, refl, tt))))))))))))))))
+
+each : (cs : List Case) → Checked cs → (c : Case) → c ∈ cs → Decides (c .held) (c .question) (c .reply)
+each [] t c m = absurd (List·Memᴰ·not-nil m)
+each (k ∷ cs) t c m =
+    ⊎-elim
+    (λ e. subst (λ (v : Case). Decides (v .held) (v .question) (v .reply)) (sym e)
+    (subst (λ r. Decides (k .held) (k .question) r) (t .1) (answer-decides (k .held) (in-range (k .held) (within (k .held) (t .0))) (k .question))))
+    (λ n. each cs (t .2) c n)
+    (List·Memᴰ·cases-cons m)
+
+pub worked-cases : (c : Case) → c ∈ cases → Decides (c .held) (c .question) (c .reply)
+worked-cases = each cases checked

@@ -1,0 +1,4 @@
+pub mod Cuts
+pub mod Intervals
+pub mod Code
+pub mod Counts

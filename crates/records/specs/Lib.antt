@@ -1,0 +1,4 @@
+pub mod Records
+pub mod Used
+pub mod Frame
+pub mod Proper

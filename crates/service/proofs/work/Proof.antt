@@ -1,0 +1,170 @@
+-- By the command: what its call leaves is its effect.
+use mathlib.Core.Path.{refl, sym, ap, subst, _∙_}
+use mathlib.Core.List.{_++_}
+use lib.Dec.{T}
+use lib.ListN.{drop}
+use mir.Syntax.{w64}
+use mir.Val.{SFits}
+use mir.Facts.{toZ-ofZ}
+use Rattle.state.specs.State.{heldOf}
+use Rattle.block.specs.Block.{SIZE, encode}
+use Rattle.records.specs.Proper.{Proper}
+use Rattle.decide.specs.Decide.{Ask, SpansOf}
+use Rattle.service.specs.Code.{ask-writes-none}
+use Rattle.service.proofs.Lending.{parts, changed, questioned, as-command}
+use borrow.Author.Needs.{needs}
+use Rattle.service.proofs.work.Statement.{statement}
+use Rattle.service.proofs.work.Tie as tie
+
+enum-told : tie.Need-enum-told
+enum-told c = search needs
+
+empty-requires : tie.Need-empty-requires
+empty-requires c κs = search needs
+
+store-requires : tie.Need-store-requires
+store-requires c κs = search needs
+
+enum-known-command : tie.Need-enum-known-command
+enum-known-command c = search needs
+
+with-rule-requires : tie.Need-with-rule-requires
+with-rule-requires c κs = search needs
+
+keep-requires : tie.Need-keep-requires
+keep-requires c κs = search needs
+
+enum-known-command-2 : tie.Need-enum-known-command-2
+enum-known-command-2 c = search needs
+
+put-requires : tie.Need-put-requires
+put-requires c κs = search needs
+
+keep-requires-2 : tie.Need-keep-requires-2
+keep-requires-2 c κs = search needs
+
+enum-known-command-3 : tie.Need-enum-known-command-3
+enum-known-command-3 c = search needs
+
+take-requires : tie.Need-take-requires
+take-requires c κs = search needs
+
+keep-requires-3 : tie.Need-keep-requires-3
+keep-requires-3 c κs = search needs
+
+enum-known-command-4 : tie.Need-enum-known-command-4
+enum-known-command-4 c = search needs
+
+ask-requires : tie.Need-ask-requires
+ask-requires c κs =
+    let start = c .before .before .before .before .before .before .before .before in
+    (start .pre .0, start .pre .3, start .pre .4, subst (λ x. T (Proper x)) (c .before .before .before .command4 .given .1) (start .pre .1))
+
+enum-known-command-5 : tie.Need-enum-known-command-5
+enum-known-command-5 c = search needs
+
+spans-answer-requires : tie.Need-spans-answer-requires
+spans-answer-requires c κs =
+    let start = c .before .before .before .before .before .before .before .before .before in
+    (start .pre .0, start .pre .3, start .pre .4, start .pre .5, subst (λ x. T (Proper x)) (c .before .before .before .before .command5 .given .1) (start .pre .1))
+
+same-length : tie.Need-same-length
+same-length c = search needs
+
+returns : tie.Need-returns
+returns c =
+    let start = c .before .before .before .before .before .before .before .before .before .before in
+    as-command (start .args .block .now) (start .args .labels .now) (start .args .links .now) (start .args .spans .now) (heldOf (start .args .state)) (start .args .used) (start .args .command) _ (c .before .before .before .before .before .enum-told .given .1)
+    (parts refl refl (c .before .before .store .ensures ∙ ap (λ x. encode x ++ drop SIZE (start .args .block .now)) (c .before .before .before .empty .ensures .held)) refl refl refl)
+
+same-length-2 : tie.Need-same-length-2
+same-length-2 c = search needs
+
+returns-2 : tie.Need-returns-2
+returns-2 c =
+    let start = c .before .before .before .before .before .before .before .before .before .before .before in
+    as-command (start .args .block .now) (start .args .labels .now) (start .args .links .now) (start .args .spans .now) (heldOf (start .args .state)) (start .args .used) (start .args .command) _ (c .before .before .before .before .before .before .command .given .1)
+    (changed (start .args .block .now) (start .args .labels .now) (start .args .links .now) (start .args .spans .now) (heldOf (start .args .state)) _ _ (start .args .used) _ _ _ (c .before .before .before .with-rule .ensures) (c .before .before .keep .ensures))
+
+same-length-3 : tie.Need-same-length-3
+same-length-3 c = search needs
+
+returns-3 : tie.Need-returns-3
+returns-3 c =
+    let start = c .before .before .before .before .before .before .before .before .before .before .before in
+    as-command (start .args .block .now) (start .args .labels .now) (start .args .links .now) (start .args .spans .now) (heldOf (start .args .state)) (start .args .used) (start .args .command) _ (c .before .before .before .before .before .before .command2 .given .1)
+    (changed (start .args .block .now) (start .args .labels .now) (start .args .links .now) (start .args .spans .now) (heldOf (start .args .state)) _ _ (start .args .used) _ _ _ (c .before .before .before .put .ensures) (c .before .before .keep2 .ensures))
+
+same-length-4 : tie.Need-same-length-4
+same-length-4 c = search needs
+
+returns-4 : tie.Need-returns-4
+returns-4 c =
+    let start = c .before .before .before .before .before .before .before .before .before .before .before in
+    as-command (start .args .block .now) (start .args .labels .now) (start .args .links .now) (start .args .spans .now) (heldOf (start .args .state)) (start .args .used) (start .args .command) _ (c .before .before .before .before .before .before .command3 .given .1)
+    (changed (start .args .block .now) (start .args .labels .now) (start .args .links .now) (start .args .spans .now) (heldOf (start .args .state)) _ _ (start .args .used) _ _ _ (c .before .before .before .take .ensures) (c .before .before .keep3 .ensures))
+
+same-length-5 : tie.Need-same-length-5
+same-length-5 c = search needs
+
+same-length-6 : tie.Need-same-length-6
+same-length-6 c = search needs
+
+returns-5 : tie.Need-returns-5
+returns-5 c =
+    let start = c .before .before .before .before .before .before .before .before .before .before .before .before .before in
+    let named = c .before .before .before .before .before .before .before .before .command4 .given in
+    let f : SFits w64 (named .0 .1 .0) = search needs in
+    as-command (start .args .block .now) (start .args .labels .now) (start .args .links .now) (start .args .spans .now) (heldOf (start .args .state)) (start .args .used) (start .args .command) _ (named .1)
+    (questioned (start .args .block .now) (start .args .labels .now) (start .args .links .now) (start .args .spans .now) (heldOf (start .args .state)) (Ask (named .0 .0) (named .0 .1 .0)) (start .args .used) _ _ _ _ (rw (toZ-ofZ f) at (c .before .before .before .before .ask .ensures)) (sym (ask-writes-none (heldOf (start .args .state)) (named .0 .0) (named .0 .1 .0) (start .args .spans .now))))
+
+same-length-7 : tie.Need-same-length-7
+same-length-7 c = search needs
+
+same-length-8 : tie.Need-same-length-8
+same-length-8 c = search needs
+
+same-length-9 : tie.Need-same-length-9
+same-length-9 c = search needs
+
+returns-6 : tie.Need-returns-6
+returns-6 c =
+    let start = c .before .before .before .before .before .before .before .before .before .before .before .before .before .before .before in
+    as-command (start .args .block .now) (start .args .labels .now) (start .args .links .now) (start .args .spans .now) (heldOf (start .args .state)) (start .args .used) (start .args .command) _ (c .before .before .before .before .before .before .before .before .before .before .command5 .given .1)
+    (questioned (start .args .block .now) (start .args .labels .now) (start .args .links .now) (start .args .spans .now) (heldOf (start .args .state)) (SpansOf _ _) (start .args .used) _ _ _ _ (c .before .before .before .before .before .spans-answer .ensures .asked) (c .before .before .before .before .before .spans-answer .ensures .buffer))
+
+pub work-spec : {M : Type 1} → statement M
+work-spec =
+    tie.close
+    (tie.spec
+    enum-told
+    empty-requires
+    store-requires
+    enum-known-command
+    with-rule-requires
+    keep-requires
+    enum-known-command-2
+    put-requires
+    keep-requires-2
+    enum-known-command-3
+    take-requires
+    keep-requires-3
+    enum-known-command-4
+    ask-requires
+    enum-known-command-5
+    spans-answer-requires
+    same-length
+    returns
+    same-length-2
+    returns-2
+    same-length-3
+    returns-3
+    same-length-4
+    returns-4
+    same-length-5
+    same-length-6
+    returns-5
+    same-length-7
+    same-length-8
+    same-length-9
+    returns-6)

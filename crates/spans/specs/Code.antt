@@ -1,0 +1,77 @@
+-- What the contracts say of the spans in the lent buffer. Assumes nothing.
+use mathlib.Core.Path.{_≡_}
+use mathlib.Core.Bool.{Bool, true, false}
+use mathlib.Core.List.{List, [], _∷_, _++_}
+use Prim.Native.Nat.{ℕ, suc, pred, _+_, _-_, _*_, _≤_, _<_}
+use lib.IntN.{ℤ}
+use lib.ListN.{length, take, drop}
+use Rattle.terms.specs.Spans.{Run, run}
+use Rattle.line.specs.Cuts.{top-of, bottom-of}
+use Rattle.line.specs.Code.{Cuts-in, Low-cuts}
+use Rattle.spans.specs.declared.Progress.{Progress}
+use Rattle.spans.specs.Runs.{Begun, outside, since, runsFrom, runs, flat}
+
+-- what a call for a label's spans may be given
+pub record To-write (buffer : List ℤ) (table : List ℕ) (a A : ℕ) (line : List ℤ) (n : ℕ) : Type 0 where
+  pub cuts : Cuts-in line n
+  pub low : Low-cuts line n
+  pub item : a < 16
+  pub label : A < 64
+  pub labels : 3088 ≤ length table
+  pub spans : 194 ≤ length buffer
+
+-- 01, Records: the pairs stand first in the buffer, and behind them it is as lent
+pub record Spans-written (rs : List Run) (before after : List ℤ) (r : ℕ) : Type 0 where
+  pub count : r ≡ length rs
+  pub buffer : after ≡ flat rs ++ drop (length (flat rs)) before
+
+-- these values from this place on, and the others as they were
+unfoldable pub laid : List ℤ → ℕ → List ℤ → List ℤ
+laid l at vs = (take at l ++ vs) ++ drop (at + length vs) l
+
+-- the code's two numbers as what they mean
+abbrev pub begunAt : Bool → ℕ → Begun
+begunAt true s = since s
+begunAt false s = outside
+
+-- whether a span has begun, and where
+abbrev pub begunIn : Progress → Begun
+begunIn g = begunAt (g .begun) (g .since)
+
+-- a span begins before the next interval
+abbrev pub Earlier : Begun → ℕ → Type 0
+Earlier outside p = Unit {0}
+Earlier (since s) p = s < p
+
+-- the span that ends before interval p, by whether p has the label
+abbrev pub endedAt : List ℤ → ℕ → Bool → Begun → List Run
+endedAt cs p true g = []
+endedAt cs p false outside = []
+endedAt cs p false (since s) = run (top-of cs s) (bottom-of cs (pred p)) ∷ []
+
+-- whether a span has begun behind interval p
+abbrev pub begunAfter : ℕ → Bool → Begun → Begun
+begunAfter p false g = outside
+begunAfter p true outside = since p
+begunAfter p true (since s) = since s
+
+-- before interval p the buffer holds exactly the spans that ended before it, and is as lent behind them
+pub record Written-so-far (cs : List ℤ) (has : ℕ → Bool) (p : ℕ) (g : Progress) (before after : List ℤ) : Type 0 where
+  pub done : List Run
+  pub left : runs cs has ≡ done ++ runsFrom cs has (suc (length cs) - p) p (begunIn g)
+  pub begins : Earlier (begunIn g) p
+  pub written : Spans-written done before after (g .count)
+
+-- what a step at interval p may be given; behind the last interval one more, without the label, ends the open span
+pub record To-step (buffer line : List ℤ) (n p : ℕ) (has : Bool) (g : Progress) : Type 0 where
+  pub cuts : Cuts-in line n
+  pub low : Low-cuts line n
+  pub inside : p ≤ n + 1
+  pub begins : Earlier (begunIn g) p
+  pub room : 2 * (g .count + length (endedAt (take n line) p has (begunIn g))) ≤ length buffer
+
+-- what the step at interval p does
+pub record Stepped (cs : List ℤ) (p : ℕ) (has : Bool) (g : Progress) (before after : List ℤ) (r : Progress) : Type 0 where
+  pub begun : begunIn r ≡ begunAfter p has (begunIn g)
+  pub count : r .count ≡ g .count + length (endedAt cs p has (begunIn g))
+  pub buffer : after ≡ laid before (2 * g .count) (flat (endedAt cs p has (begunIn g)))

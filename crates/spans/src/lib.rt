@@ -1,0 +1,82 @@
+// The spans of a label, written to the lent buffer.
+ghost use mathlib.Core.Path.{_≡_};
+ghost use mathlib.Core.List.{[], _∷_};
+ghost use Prim.Native.Nat.{_+_, _*_, _≤_};
+ghost use lib.ListN.{length, take};
+ghost use Rattle.spans.specs.Runs.{runs, hasLabel};
+ghost use Rattle.spans.specs.Code.{laid, To-write, Spans-written, To-step, Stepped};
+
+// Whether a span has begun, at which interval, and how many are written.
+struct Progress {
+    begun: bool,
+    since: usize,
+    count: usize,
+}
+
+// Writes a span's two ends as pair number `place`.
+fn put_pair(spans: &mut [i32], place: usize, top: i32, bottom: i32)
+    requires { ⌜ 2 * place + 2 ≤ length (now spans) ⌝ }
+    ensures { λ _. ⌜ now (spans .exit) ≡ laid (now (spans .entry)) (2 * place) (top ∷ (bottom ∷ [])) ⌝ }
+{
+    spans[2 * place] = top;
+    spans[2 * place + 1] = bottom;
+}
+
+// Goes on to interval `p`: where it does not have the label, the span that has begun ends before it.
+fn step(
+    spans: &mut [i32],
+    cuts: &[i32; 192],
+    n: usize,
+    p: usize,
+    has: bool,
+    state: Progress,
+) -> Progress
+    requires { ⌜ To-step (now spans) (now cuts) n p has state ⌝ }
+    ensures { λ r. ⌜ Stepped (take n (now (cuts .entry))) p has state (now (spans .entry)) (now (spans .exit)) r ⌝ }
+{
+    if !state.begun {
+        return Progress {
+            begun: has,
+            since: p,
+            count: state.count,
+        };
+    }
+    if has {
+        return state;
+    }
+    let top = line::top_of(cuts, n, state.since);
+    let bottom = line::bottom_of(cuts, n, p - 1);
+    put_pair(spans, state.count, top, bottom);
+    Progress {
+        begun: has,
+        since: p,
+        count: state.count + 1,
+    }
+}
+
+// Writes the spans of an item's label, and gives how many there are.
+pub fn write_spans(
+    spans: &mut [i32],
+    labels: &[u64],
+    item: usize,
+    label: usize,
+    cuts: &[i32; 192],
+    n: usize,
+) -> usize
+    requires { ⌜ To-write (now spans) (now labels) item label (now cuts) n ⌝ }
+    ensures { λ r. ⌜ Spans-written (runs (take n (now (cuts .entry))) (hasLabel (now (labels .entry)) item label)) (now (spans .entry)) (now (spans .exit)) r ⌝ }
+{
+    let mut state = Progress {
+        begun: false,
+        since: 0,
+        count: 0,
+    };
+    let mut p: usize = 0;
+    while p <= n {
+        let has = words::bit(labels[item * 193 + p], label) == 1;
+        state = step(spans, cuts, n, p, has, state);
+        p += 1;
+    }
+    state = step(spans, cuts, n, p, false, state);
+    state.count
+}

@@ -1,0 +1,5 @@
+pub mod Signed
+pub mod Scan
+pub mod Exact
+pub mod Keyed
+pub mod Outcome

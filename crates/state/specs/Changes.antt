@@ -1,0 +1,44 @@
+-- 01's book on the held lists: the tests of the rows `lists`, and what an accepted record changes.
+use mathlib.Core.Bool.{Bool, true, false, not, cond, _&&_}
+use mathlib.Core.List.{List, [], _∷_, _++_}
+use Prim.Native.Nat.{ℕ}
+use lib.Dec.{leb}
+use lib.ListN.{length}
+use Rattle.terms.specs.declared.Rule.{Rule}
+use Rattle.terms.specs.declared.Mark.{Mark}
+use Rattle.terms.specs.Limits.{RULES, MARKS, DEPTHS}
+use Rattle.terms.specs.Held.{Held, withRules, withMarks}
+pub use Rattle.terms.specs.Refusals.{Test, test, lowest}
+use Rattle.terms.specs.Same.{sameRule, sameMark, sameDepth}
+use Rattle.terms.specs.Lists.{some, strike, depthCount}
+
+-- 01, Where a record is turned away, lists: a rule
+abbrev pub ruleTests : Held → Rule → List Test
+ruleTests h ρ = test (some (sameRule ρ) (h .rules)) 9 ∷ test (leb RULES (length (h .rules))) 11 ∷ []
+
+-- a mark to put
+abbrev pub putTests : Held → Mark → List Test
+putTests h m =
+    test (some (sameMark m) (h .marks)) 9
+    ∷ test (leb MARKS (length (h .marks))) 11
+    ∷ test (not (some (λ n. sameDepth (m .depth) (n .depth)) (h .marks)) && leb DEPTHS (depthCount (h .marks))) 12
+    ∷ []
+
+-- a mark to take
+abbrev pub takeTests : Held → Mark → List Test
+takeTests h m = test (not (some (sameMark m) (h .marks))) 10 ∷ []
+
+-- 01, The book: kinds 2 to 5 add their rule at the end of its list, kinds 6 and 7 their mark
+abbrev pub addRule : Held → Rule → Held
+addRule h ρ = withRules h (h .rules ++ (ρ ∷ []))
+
+abbrev pub putMark : Held → Mark → Held
+putMark h m = withMarks h (h .marks ++ (m ∷ []))
+
+-- 01, The book: kinds 8 and 9 strike the mark with the same fields; those behind it move up
+abbrev pub takeMark : Held → Mark → Held
+takeMark h m = withMarks h (strike (sameMark m) (h .marks))
+
+-- 01, The book: both empty at first
+abbrev pub emptyHeld : Held
+emptyHeld = record { rules = []; marks = []; settings = tt }

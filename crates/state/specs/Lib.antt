@@ -1,0 +1,4 @@
+pub mod Changes
+pub mod State
+pub mod Keys
+pub mod Holding

@@ -1,0 +1,46 @@
+-- The held lists, and the limits that they keep. Assumes nothing.
+use mathlib.Core.Bool.{Bool, true, false, not, cond, _&&_, _||_}
+use mathlib.Core.List.{List, [], _∷_}
+use Prim.Native.Nat.{ℕ, _+_}
+use lib.Dec.{leb}
+use lib.ListN.{length, take}
+use Rattle.terms.specs.declared.RulePlace.{RulePlace}
+use Rattle.terms.specs.declared.Mark.{Mark}
+use Rattle.terms.specs.Limits.{RULES, MARKS, DEPTHS}
+use Rattle.terms.specs.Held.{Held, rulesIn, isRule, isMark}
+use Rattle.terms.specs.Same.{sameRule, sameMark, sameDepth}
+
+-- some element passes
+unfoldable pub some : {X : Type 0} → (X → Bool) → List X → Bool
+some f [] = false
+some f (x ∷ xs) = f x || some f xs
+
+-- each element passes
+unfoldable pub every : {X : Type 0} → (X → Bool) → List X → Bool
+every f [] = true
+every f (x ∷ xs) = f x && every f xs
+
+-- the list without the first that passes: those behind it move up
+unfoldable pub strike : {X : Type 0} → (X → Bool) → List X → List X
+strike f [] = []
+strike f (x ∷ xs) = cond (f x) xs (x ∷ strike f xs)
+
+-- no two are alike
+unfoldable pub once : {X : Type 0} → (X → X → Bool) → List X → Bool
+once alike [] = true
+once alike (x ∷ xs) = not (some (alike x) xs) && once alike xs
+
+-- 01, Names and depths: how many distinct depths are marked
+unfoldable pub depthCount : List Mark → ℕ
+depthCount [] = 0
+depthCount (m ∷ ms) = cond (some (λ n. sameDepth (m .depth) (n .depth)) ms) 0 1 + depthCount ms
+
+-- 01, Names and depths and Records: what the held lists keep
+unfoldable pub limits : Held → Bool
+limits h =
+    leb (length (h .rules)) RULES && (leb (length (h .marks)) MARKS && (leb (depthCount (h .marks)) DEPTHS
+    && (every isRule (h .rules) && (every isMark (h .marks) && (once sameRule (h .rules) && once sameMark (h .marks))))))
+
+-- what the first places of the two lists hold
+abbrev pub heldIn : List RulePlace → ℕ → List Mark → ℕ → Held
+heldIn ps n ms m = record { rules = rulesIn ps n; marks = take m ms; settings = tt }

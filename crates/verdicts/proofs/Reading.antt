@@ -1,0 +1,77 @@
+-- What a search that stops at the first hit has found, and the names and the bit of a statement. Assumes nothing.
+use mathlib.Core.Path.{_≡_, refl, sym, ap, subst}
+use mathlib.Core.Logic.{⊎-elim}
+use mathlib.Core.Bool.{Bool, true, false, _&&_}
+use mathlib.Core.List.{List}
+use Prim.Native.Nat.{ℕ, zero, suc, _+_, _*_, _<_, _≤_}
+use native.Mathlib.Nat.{eq-or-lt-of-le}
+use native.Mathlib.Omega.{arith}
+use lib.Dec.{T, eqb, ltb→lt}
+use lib.ListN.{getD}
+use Rattle.terms.specs.declared.Atom.{Atom}
+use Rattle.terms.specs.declared.Atom.the-variants.{Has, Linked}
+use Rattle.terms.specs.Tests.{and-both, or-left, or-right, of-true, true-of}
+use Rattle.terms.specs.Limits.{ITEMS, NEVER, isItem, isKind, isLabel}
+use Rattle.terms.specs.Held.{isStatement}
+use Rattle.words.specs.Bit.{bitAt}
+use Rattle.spans.specs.Runs.{hasLabel}
+use Rattle.verdicts.specs.Reading.{anyBelow, absent, first, lowestOf, neverIn, itemOr16, clashItem, holdsIn}
+
+-- ---- NEVER in the entries of an item
+
+one-below : (n : ℕ) (f : ℕ → Bool) (p : ℕ) → p < n → T (f p) → T (anyBelow n f)
+one-below zero f p l t = let z : ⊥ = omega arith in absurd z
+one-below (suc n) f p l t =
+    let h : p ≤ n = omega arith in
+    ⊎-elim (λ e. or-left (f n) (anyBelow n f) (subst (λ q. T (f q)) e t)) (λ k. or-right (f n) (anyBelow n f) (one-below n f p k t)) (eq-or-lt-of-le h)
+
+none-below : (n : ℕ) (f : ℕ → Bool) → ((q : ℕ) → q < n → f q ≡ false) → anyBelow n f ≡ false
+none-below zero f h = refl
+none-below (suc n) f h = rw (h n (omega arith)) (none-below n f (λ q l. h q (omega arith)))
+
+pub never-found : (labels : List ℕ) (item p : ℕ) → p < 193 → hasLabel labels item NEVER p ≡ true → true ≡ neverIn labels item
+never-found labels item p l e = sym (true-of (neverIn labels item) (one-below 193 (hasLabel labels item NEVER) p l (of-true e)))
+
+pub never-absent : (labels : List ℕ) (item : ℕ) → ((q : ℕ) → q < 193 → hasLabel labels item NEVER q ≡ false) → false ≡ neverIn labels item
+never-absent labels item h = sym (none-below 193 (hasLabel labels item NEVER) h)
+
+-- ---- the lowest item
+
+lowest-first : (f : ℕ → Bool) (n a k b : ℕ) → a + k ≡ b → k < n → ((q : ℕ) → q < b → f q ≡ false) → f b ≡ true → lowestOf f n a ≡ first b
+lowest-first f zero a k b e l h t = let z : ⊥ = omega arith in absurd z
+lowest-first f (suc n) a zero b e l h t = let d : a ≡ b = omega arith in rw d (rw (t, lowestOf))
+lowest-first f (suc n) a (suc k) b e l h t = rw (h a (omega arith), lowestOf) (lowest-first f n (suc a) k b (omega arith) (omega arith) h t)
+
+lowest-absent : (f : ℕ → Bool) (n a : ℕ) → ((q : ℕ) → q < a + n → f q ≡ false) → lowestOf f n a ≡ absent
+lowest-absent f zero a h = refl
+lowest-absent f (suc n) a h = rw (h a (omega arith), lowestOf) (lowest-absent f n (suc a) (λ q l. h q (omega arith)))
+
+pub clash-found : (labels : List ℕ) (item : ℕ) → item < 16 → ((a : ℕ) → a < item → neverIn labels a ≡ false) → neverIn labels item ≡ true → item ≡ clashItem labels
+unfolding clashItem
+clash-found labels item l h t = sym (ap itemOr16 (lowest-first (neverIn labels) ITEMS 0 item item (omega arith) l h t))
+
+pub clash-absent : (labels : List ℕ) → ((a : ℕ) → a < 16 → neverIn labels a ≡ false) → 16 ≡ clashItem labels
+unfolding clashItem
+clash-absent labels h = sym (ap itemOr16 (lowest-absent (neverIn labels) ITEMS 0 (λ q l. h q (omega arith))))
+
+-- ---- a statement
+
+-- the names in it, as numbers
+pub label-names : (x : Atom) (a A : ℕ) → x ≡ Has a A → T (isStatement x) → (a < 16) × (A < 64)
+label-names x a A e t =
+    let w = and-both (isItem a) (isLabel A) (subst (λ y. T (isStatement y)) e t) in
+    (ltb→lt a 16 (w .0), ltb→lt A 64 (w .1))
+
+pub link-names : (x : Atom) (a r b : ℕ) → x ≡ Linked a r b → T (isStatement x) → (a < 16) × (r < 8) × (b < 16)
+link-names x a r b e t =
+    let w = and-both (isItem a) (isKind r && isItem b) (subst (λ y. T (isStatement y)) e t) in
+    let v = and-both (isKind r) (isItem b) (w .1) in
+    (ltb→lt a 16 (w .0), ltb→lt r 8 (v .0), ltb→lt b 16 (v .1))
+
+-- its bit, found under the names as the code has them
+module _ (labels links : List ℕ) (x : Atom) (p : ℕ) where
+  pub label-held : (a A i k s : ℕ) → x ≡ Has a A → i ≡ a → k ≡ A → s ≡ bitAt (getD labels (i * 193 + p) 0) k → eqb s 1 ≡ holdsIn labels links x p
+  label-held a A i k s e f g h = rw (e, h, f, g)
+
+  pub link-held : (a r b i j k w s : ℕ) → x ≡ Linked a r b → i ≡ a → j ≡ b → k ≡ r → w ≡ getD links ((i * 16 + j) * 193 + p) 0 → s ≡ bitAt w k → eqb s 1 ≡ holdsIn labels links x p
+  link-held a r b i j k w s e f g d v h = rw (e, h, v, f, g, d)

@@ -1,0 +1,61 @@
+-- The invariant: no item below `item` has NEVER; the measure is the number of items left.
+use mathlib.Core.Path.{_≡_, sym, _∙_}
+use mathlib.Core.Bool.{false}
+use Prim.Native.Nat.{ℕ, _-_, _≤_, _<_}
+use native.Mathlib.Omega.{arith}
+use borrow.Author.Count.{below-none, below-more}
+use Rattle.verdicts.specs.Reading.{neverIn}
+use Rattle.verdicts.proofs.Reading.{clash-found, clash-absent}
+use Rattle.verdicts.proofs.clash_item.Statement.{statement}
+use Rattle.verdicts.proofs.clash_item.Tie as tie
+
+abbrev Inv-loop : tie.InvT-loop
+Inv-loop labels item₀ item = (item ≤ 16) × ((a : ℕ) → a < item → neverIn labels a ≡ false)
+
+abbrev μ-loop : tie.MeasureT-loop
+μ-loop labels item₀ item = 16 - item
+
+loop-holds : tie.Need-loop-holds Inv-loop μ-loop
+loop-holds c = (omega arith, below-none _)
+
+has-never-requires : tie.Need-has-never-requires Inv-loop μ-loop
+has-never-requires c κs = (c .before .before .before .pre, c .loop-test .taken)
+
+returns : tie.Need-returns Inv-loop μ-loop
+returns c =
+    let l = c .before .before in
+    let s = l .before .before .before in
+    clash-found (s .args .labels .now) (l .before .loop .item) (l .loop-test .taken) (l .before .loop .inv .1) (sym (c .before .has-never .ensures) ∙ c .if1 .taken)
+
+add-item : tie.Need-add-item Inv-loop μ-loop
+add-item c = omega (arith, c .before .before .loop-test .taken)
+
+loop-less : tie.Need-loop-less Inv-loop μ-loop
+loop-less c = omega (arith, c .before .before .loop-test .taken)
+
+loop-again : tie.Need-loop-again Inv-loop μ-loop
+loop-again c =
+    let l = c .before .before in
+    let s = l .before .before .before in (
+      omega (arith, l .loop-test .taken),
+      below-more (λ a. neverIn (s .args .labels .now) a ≡ false) (l .before .loop .item) (l .before .loop .inv .1) (sym (c .before .has-never .ensures) ∙ c .if1 .left),
+    )
+
+returns-2 : tie.Need-returns-2 Inv-loop μ-loop
+returns-2 c =
+    let s = c .before .before .before in
+    clash-absent (s .args .labels .now) (λ a l. c .before .loop .inv .1 a (omega (arith, c .loop-test .left)))
+
+pub clash-item-spec : {M : Type 1} → statement M
+clash-item-spec =
+    tie.close
+    (tie.spec
+    Inv-loop
+    μ-loop
+    loop-holds
+    has-never-requires
+    returns
+    add-item
+    loop-less
+    loop-again
+    returns-2)

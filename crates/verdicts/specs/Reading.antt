@@ -1,0 +1,43 @@
+-- What is read off the lent tables: the lowest item with NEVER, and a statement's bit.
+use mathlib.Core.Bool.{Bool, true, false, _||_}
+use mathlib.Core.List.{List}
+use Prim.Native.Nat.{ℕ, zero, suc, _+_, _*_}
+use lib.Dec.{eqb}
+use lib.ListN.{getD}
+use Rattle.terms.specs.declared.Atom.{Atom}
+use Rattle.terms.specs.declared.Atom.the-variants.{Has, Linked}
+use Rattle.terms.specs.Limits.{ITEMS, NEVER}
+use Rattle.words.specs.Bit.{bitAt}
+use Rattle.spans.specs.Runs.{hasLabel}
+
+-- one of the numbers below n passes
+abbrev pub anyBelow : ℕ → (ℕ → Bool) → Bool
+anyBelow zero f = false
+anyBelow (suc n) f = f n || anyBelow n f
+
+pub data Lookup : Type 0 where
+  absent : Lookup
+  first : ℕ → Lookup
+
+-- the lowest of a, a + 1 .. that passes, n in all
+abbrev pub lowestOf : (ℕ → Bool) → ℕ → ℕ → Lookup
+lowestOf f zero a = absent
+lowestOf f (suc n) a = elim (f a) [ true ↦ first a | false ↦ lowestOf f n (suc a) ]
+
+-- the item has NEVER in some entry of the label table
+abbrev pub neverIn : List ℕ → ℕ → Bool
+neverIn labels a = anyBelow 193 (hasLabel labels a NEVER)
+
+-- the number found; 16 for none
+abbrev pub itemOr16 : Lookup → ℕ
+itemOr16 absent = 16
+itemOr16 (first a) = a
+
+-- 01, Records: the lowest item that has NEVER
+unfoldable pub clashItem : List ℕ → ℕ
+clashItem labels = itemOr16 (lowestOf (neverIn labels) ITEMS 0)
+
+-- the statement's bit at an interval
+abbrev pub holdsIn : List ℕ → List ℕ → Atom → ℕ → Bool
+holdsIn labels links (Has a A) p = hasLabel labels a A p
+holdsIn labels links (Linked a r b) p = eqb (bitAt (getD links ((a * 16 + b) * 193 + p) 0) r) 1

@@ -1,0 +1,46 @@
+-- A turned square, laid: the lowest byte of each word has the eight kinds.
+use Rattle.write.proofs.Tables.{bytes-part}
+use native.Mathlib.Omega.{arith}
+use Rattle.write.proofs.pair_part.Statement.{statement}
+use Rattle.write.proofs.pair_part.Tie as tie
+
+mul-turned : tie.Need-mul-turned
+mul-turned c = omega arith
+
+add-turned : tie.Need-add-turned
+add-turned c = omega arith
+
+turned-requires : tie.Need-turned-requires
+turned-requires c κs = (omega arith, omega arith, omega arith)
+
+mul-lay-bytes : tie.Need-mul-lay-bytes
+mul-lay-bytes c = omega arith
+
+mul-lay-bytes-2 : tie.Need-mul-lay-bytes-2
+mul-lay-bytes-2 c = omega arith
+
+add-lay-bytes : tie.Need-add-lay-bytes
+add-lay-bytes c = omega arith
+
+lay-bytes-requires : tie.Need-lay-bytes-requires
+lay-bytes-requires c κs = (omega arith, omega arith, omega arith)
+
+same-length : tie.Need-same-length
+same-length c = omega arith
+
+returns : tie.Need-returns
+returns c = bytes-part _ _ _ _ _ _ _ _ (c .before .before .before .before .before .before .before .before .pre .3) (c .before .before .before .before .before .turned .ensures) (c .before .before .lay-bytes .ensures)
+
+pub pair-part-spec : {M : Type 1} → statement M
+pair-part-spec =
+    tie.close
+    (tie.spec
+    mul-turned
+    add-turned
+    turned-requires
+    mul-lay-bytes
+    mul-lay-bytes-2
+    add-lay-bytes
+    lay-bytes-requires
+    same-length
+    returns)
