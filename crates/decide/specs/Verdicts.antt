@@ -26,6 +26,7 @@ use Rattle.tables.specs.Saturate.{fact, mem, mem→∈}
 use Rattle.tables.specs.Executed.{model, model-low}
 use Rattle.tables.specs.Tables.{bit-of, labelEntry, linkEntry, labelTable, linkTable, label-entry, link-entry}
 use Rattle.tables.specs.Bridge.{length-tab}
+use Rattle.spans.specs.Longest.{runs-fit}
 use Rattle.spans.specs.Runs.{Begun, outside, since, runsFrom, runs, hasLabel}
 use Rattle.verdicts.specs.Reading.{anyBelow, Lookup, absent, first, lowestOf, neverIn, itemOr16, clashItem, holdsIn}
 use Rattle.decide.specs.Decide.{Question, Ask, SpansOf, Verdict, Yes, No, Spans, Reply, Contradiction, Answered, clashes, clashOr, verdict, answer}
@@ -43,26 +44,27 @@ one-or-not : (b : Bool) (x : ℕ) → x ≡ cond b 1 0 → eqb x 1 ≡ b
 one-or-not true x e = ap (λ v. eqb v 1) e
 one-or-not false x e = ap (λ v. eqb v 1) e
 
+-- 01, State and tables: how long the tables are
+pub length-labels : (h : Held) → length (labelTable h) ≡ 3088
+unfolding labelTable
+length-labels h = length-tab (λ e. labelEntry (model h) (e / 193) (e % 193)) 3088 0
+
+pub length-links : (h : Held) → length (linkTable h) ≡ 49408
+unfolding linkTable
+length-links h = length-tab (λ e. linkEntry (model h) (e / 193 / 16) (e / 193 % 16) (e % 193)) 49408 0
+
 module _ (h : Held) (few : length (cutsOf h) ≤ 192) where
-  length-labels : length (labelTable h) ≡ 3088
-  unfolding labelTable
-  length-labels = length-tab (λ e. labelEntry (model h) (e / 193) (e % 193)) 3088 0
-
-  length-links : length (linkTable h) ≡ 49408
-  unfolding linkTable
-  length-links = length-tab (λ e. linkEntry (model h) (e / 193 / 16) (e / 193 % 16) (e % 193)) 49408 0
-
   label-bit : (t : List ℕ) (a A p : ℕ) → a < 16 → A < 64 → p < 193 → hasLabel (labelTable h ++ t) a A p ≡ mem (fact (Has a A) p) (model h)
   unfolding labelEntry
   label-bit t a A p l k b =
       one-or-not (mem (fact (Has a A) p) (model h)) (bitAt (getD (labelTable h ++ t) (a * 193 + p) 0) A)
-      (ap (λ x. bitAt x A) (List·getD-append (labelTable h) t 0 (a * 193 + p) (omega (arith, length-labels)) ∙ label-entry h few a p l b) ∙ bit-of (λ A. mem (fact (Has a A) p) (model h)) 64 A k)
+      (ap (λ x. bitAt x A) (List·getD-append (labelTable h) t 0 (a * 193 + p) (omega (arith, length-labels h)) ∙ label-entry h few a p l b) ∙ bit-of (λ A. mem (fact (Has a A) p) (model h)) 64 A k)
 
   link-bit : (t : List ℕ) (a r b p : ℕ) → a < 16 → r < 8 → b < 16 → p < 193 → eqb (bitAt (getD (linkTable h ++ t) ((a * 16 + b) * 193 + p) 0) r) 1 ≡ mem (fact (Linked a r b) p) (model h)
   unfolding linkEntry
   link-bit t a r b p l k m q =
       one-or-not (mem (fact (Linked a r b) p) (model h)) (bitAt (getD (linkTable h ++ t) ((a * 16 + b) * 193 + p) 0) r)
-      (ap (λ x. bitAt x r) (List·getD-append (linkTable h) t 0 ((a * 16 + b) * 193 + p) (omega (arith, length-links)) ∙ link-entry h few a b p l m q) ∙ bit-of (λ r. mem (fact (Linked a r b) p) (model h)) 8 r k)
+      (ap (λ x. bitAt x r) (List·getD-append (linkTable h) t 0 ((a * 16 + b) * 193 + p) (omega (arith, length-links h)) ∙ link-entry h few a b p l m q) ∙ bit-of (λ r. mem (fact (Linked a r b) p) (model h)) 8 r k)
 
   -- a statement's bit at a depth's interval
   pub holds-is : (t u : List ℕ) (x : Atom) (i : ℤ) → T (isStatement x) → holdsIn (labelTable h ++ t) (linkTable h ++ u) x (interval h i) ≡ mem (fact x (interval h i)) (model h)
@@ -150,3 +152,23 @@ module _ (h : Held) (few : length (cutsOf h) ≤ 192) where
 pub clash-cases : (l : Lookup) → (a : ℕ) → itemOr16 l ≡ a → ((b : ℕ) → l ≡ first b → b < 16) → (v : Verdict) → ((16 ≤ a) × (clashOr l v ≡ Answered v)) ⊎ ((a < 16) × (clashOr l v ≡ Contradiction a))
 clash-cases absent a e f v = inl (omega arith, refl)
 clash-cases (first b) a e f v = inr (let w = f b refl in omega arith, ap Contradiction e)
+
+-- 01, Records: a list of spans has at most 97 pairs
+pub spans-fit : (h : Held) → length (cutsOf h) ≤ 192 → (q : Question) (rs : List Run) → answer h q ≡ Answered (Spans rs) → length rs ≤ 97
+unfolding answer
+spans-fit h few q rs e = go (lowestOf (clashes h (model h)) ITEMS 0) q e
+  where
+    clash : _≡_ {A = ℕ} 0 1 → length rs ≤ 97
+    clash z = omega arith
+
+    said : (v : Bool) → _≡_ {A = Reply} (Answered (cond v Yes No)) (Answered (Spans rs)) → length rs ≤ 97
+    said true d = clash (cc)
+    said false d = clash (cc)
+
+    same : (xs : List Run) → length xs ≤ 97 → _≡_ {A = Reply} (Answered (Spans xs)) (Answered (Spans rs)) → length rs ≤ 97
+    same xs l d = let w : xs ≡ rs = cc in subst (λ (ys : List Run). length ys ≤ 97) w l
+
+    go : (r : Lookup) (p : Question) → clashOr r (verdict h (model h) p) ≡ Answered (Spans rs) → length rs ≤ 97
+    go (first a) p d = clash (cc)
+    go absent (Ask x i) d = said (mem (fact x (interval h i)) (model h)) d
+    go absent (SpansOf a A) d = same (runs (cutsOf h) (λ p. mem (fact (Has a A) p) (model h))) (runs-fit (cutsOf h) (λ p. mem (fact (Has a A) p) (model h)) few .0) d

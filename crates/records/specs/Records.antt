@@ -108,21 +108,29 @@ askTests x = test (not (isStatement x)) 6 ∷ []
 abbrev pub decodedBy : List Test → Command → Decoded
 decodedBy ts c = cond (eqb (lowest ts) 0) (Decoded.Command c) (Decoded.Refused (lowest ts))
 
+abbrev pub labelRuleTests : List ℕ → List Test
+labelRuleTests b = test (not (isLeft (getD b 5 0) && isConcluded (getD b 6 0))) 6 ∷ test (isInvalid (operatorIn b)) 7 ∷ []
+
+abbrev pub bothRuleTests : List ℕ → List Test
+bothRuleTests b = test (not (isLeft (getD b 0 0) && (isLeft (getD b 1 0) && isConcluded (getD b 2 0)))) 6 ∷ []
+
+abbrev pub linkRuleTests : List ℕ → List Test
+linkRuleTests b = test (not (isKind (getD b 5 0) && isKind (getD b 6 0))) 6 ∷ test (isInvalid (operatorIn b)) 7 ∷ []
+
+abbrev pub viaRuleTests : List ℕ → List Test
+viaRuleTests b = test (not (isKind (getD b 0 0) && (isLeft (getD b 1 0) && isConcluded (getD b 2 0)))) 6 ∷ []
+
 abbrev pub labelRule : List ℕ → Decoded
-labelRule b =
-    decodedBy (test (not (isLeft (getD b 5 0) && isConcluded (getD b 6 0))) 6 ∷ test (isInvalid (operatorIn b)) 7 ∷ [])
-    (Command.Add (Label (orBetween (operatorIn b)) (getD b 5 0) (getD b 6 0)))
+labelRule b = decodedBy (labelRuleTests b) (Command.Add (Label (orBetween (operatorIn b)) (getD b 5 0) (getD b 6 0)))
 
 abbrev pub bothRule : List ℕ → Decoded
-bothRule b = decodedBy (test (not (isLeft (getD b 0 0) && (isLeft (getD b 1 0) && isConcluded (getD b 2 0)))) 6 ∷ []) (Command.Add (Both (getD b 0 0) (getD b 1 0) (getD b 2 0)))
+bothRule b = decodedBy (bothRuleTests b) (Command.Add (Both (getD b 0 0) (getD b 1 0) (getD b 2 0)))
 
 abbrev pub linkRule : List ℕ → Decoded
-linkRule b =
-    decodedBy (test (not (isKind (getD b 5 0) && isKind (getD b 6 0))) 6 ∷ test (isInvalid (operatorIn b)) 7 ∷ [])
-    (Command.Add (Link (orBetween (operatorIn b)) (getD b 5 0) (getD b 6 0)))
+linkRule b = decodedBy (linkRuleTests b) (Command.Add (Link (orBetween (operatorIn b)) (getD b 5 0) (getD b 6 0)))
 
 abbrev pub viaRule : List ℕ → Decoded
-viaRule b = decodedBy (test (not (isKind (getD b 0 0) && (isLeft (getD b 1 0) && isConcluded (getD b 2 0)))) 6 ∷ []) (Command.Add (Via (getD b 0 0) (getD b 1 0) (getD b 2 0)))
+viaRule b = decodedBy (viaRuleTests b) (Command.Add (Via (getD b 0 0) (getD b 1 0) (getD b 2 0)))
 
 abbrev pub putOf : Mark → Decoded
 putOf m = decodedBy (markTests m) (Command.Put m)

@@ -30,6 +30,7 @@ use Rattle.records.specs.Records.{parse, spansOf}
 use Rattle.service.specs.declared.Reply as Code
 use Rattle.decide.specs.Decide.{Question, answer}
 use Rattle.service.specs.Call.{Buffers, lent, After, after, isShort, Outcome, Turned, Changed, Asked, judged, effect, onLent, call, withoutBytes, spanCall}
+pub use Rattle.service.specs.Total.{Enough, enough}
 use Rattle.service.specs.Code.{Held-state, Asked-as, spansAfter, afterOf, Kept-as, replied-is}
 
 -- what is given back, part by part
@@ -95,24 +96,6 @@ module _ (b t k : List ℕ) (s : List ℤ) where
   -- the work of a command, by which it is
   pub as-command : (h : Held) (u : ℕ) {x : After} (c d : Command) → c ≡ d → x ≡ effect h m (judged h (Parsed.Command d u)) → x ≡ effect h m (judged h (Parsed.Command c u))
   as-command h u c d e f = f ∙ ap (λ y. effect h m (judged h (Parsed.Command y u))) (sym e)
-
--- enough is lent
-pub record Enough (b t k s : ℕ) : Type 0 where
-  pub block : 3104 ≤ b
-  pub labels : 3088 ≤ t
-  pub links : 49408 ≤ k
-  pub spans : 194 ≤ s
-
-neither : (x y : Bool) → (x || y) ≡ false → (x ≡ false) × (y ≡ false)
-neither true y e = (e, absurd (subst T e tt))
-neither false y e = (refl, e)
-
-pub enough : (b t k s : ℕ) → isShort b t k s ≡ false → Enough b t k s
-enough b t k s e =
-    let (p, d) = neither (ltb b SIZE) (ltb t 3088 || (ltb k 49408 || ltb s 194)) e in
-    let (q, f) = neither (ltb t 3088) (ltb k 49408 || ltb s 194) d in
-    let (r, g) = neither (ltb k 49408) (ltb s 194) f in
-    record { block = ltb-false b SIZE p; labels = ltb-false t 3088 q; links = ltb-false k 49408 r; spans = ltb-false s 194 g }
 
 -- what a good block holds is within the limits
 pub held-state : (b : List ℕ) (r : Loaded) → Loaded-as b r → r .good ≡ true → Held-state (r .state)

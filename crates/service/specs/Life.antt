@@ -5,7 +5,7 @@ use mathlib.Core.Bool.{Bool, true, false, not, cond, _&&_, _||_, true≢false}
 use mathlib.Core.List.{List, [], _∷_, _++_, append-assoc}
 use Prim.Native.Nat.{ℕ, zero, suc, _≤_, _<_, _+_, _-_, _*_, min}
 use native.Mathlib.Omega.{arith}
-use lib.Dec.{T, ltb, eqb, nltb→le, eqb→eq}
+use lib.Dec.{T, eqb, eqb→eq}
 use lib.IntN.{ℤ}
 use lib.ListN.{length, take, drop, length-append, length-take, take-append-drop}
 use lib.Seq.{take-at, take-append-le}
@@ -29,6 +29,7 @@ use Rattle.terms.specs.declared.Atom.the-variants.{Has}
 use Rattle.spans.specs.Runs.{flat}
 use Rattle.decide.specs.Decide.{Question, SpansOf, Verdict, Yes, No, Spans, Reply, Contradiction, Answered, Decides, answer, answer-decides}
 use Rattle.service.specs.Call.{Buffers, lent, After, after, isShort, short, lentTests, Outcome, Turned, Over, Changed, Asked, listTests, obey, judged, replied, effect, onLent, call, withoutBytes, spanCall}
+use Rattle.service.specs.Total.{enough}
 use Rattle.service.specs.Kept.{Within, within, limited, in-range, empty-within, added-within, put-within, taken-within}
 use Rattle.service.specs.Reference.{Fed, Result, plain, shown, outcome, Book, turned, over, changed, asked, Lending, lentTo, kept, fed, pairsOf, resultOf}
 
@@ -85,7 +86,7 @@ pub record Laws : Type 0 where
   pub accepted : (h : Held) (s : List ℕ) (c : Command) (u : ℕ) → Within h → parse s ≡ Parsed.Command c u → lowest (listTests h c) ≡ 0 → Keeps (obey h c u)
 
 module _ (𝓛 : Laws) where
-  judged-keeps : (h : Held) (s : List ℕ) → Within h → Keeps (judged h (parse s))
+  pub judged-keeps : (h : Held) (s : List ℕ) → Within h → Keeps (judged h (parse s))
   judged-keeps h s w = go (parse s) refl
     where
       pick : (c : Command) (u : ℕ) → parse s ≡ Parsed.Command c u → (b : Bool) → (T b → lowest (listTests h c) ≡ 0) → Keeps (cond b (obey h c u) (Turned (lowest (listTests h c)) u))
@@ -145,17 +146,10 @@ module _ (𝓛 : Laws) where
         sym (take-append-le SIZE (take (c .lend) x) (drop (c .lend) x) k) ∙ (ap (take SIZE) (take-append-drop (c .lend) x) ∙ (take-at mem (c .behind) SIZE size-mem ∙ e)) in
         sym (take-append-drop SIZE (take (c .lend) x)) ∙ ap (λ y. y ++ drop SIZE (take (c .lend) x)) f
 
-    long-enough : (b t k s : ℕ) → isShort b t k s ≡ false → SIZE ≤ b
-    long-enough b t k s d = go (ltb b SIZE) (λ u. nltb→le b SIZE u) d
-      where
-        go : (x : Bool) → (T (not x) → SIZE ≤ b) → (x || (ltb t 3088 || (ltb k 49408 || ltb s 194))) ≡ false → SIZE ≤ b
-        go true f d = absurd (true≢false d)
-        go false f d = f tt
-
     -- a call on lent memory that is long enough finds what is held
     found : short (lentTo mem c) ≡ false → (readHeld (lentTo mem c .block) ≡ h) × (good (lentTo mem c .block) ≡ true)
     found d =
-        let k = lent-block (long-enough (length (lentTo mem c .block)) (length (c .labels)) (length (c .links)) (length (c .spans)) d) in
+        let k = lent-block (enough (length (lentTo mem c .block)) (length (c .labels)) (length (c .links)) (length (c .spans)) d .block) in
         let t = drop SIZE (lentTo mem c .block) in
         (ap readHeld k ∙ 𝓛 .read-encode h t (limited h w), ap good k ∙ true-of (good (encode h ++ t)) (𝓛 .good-encode h t (limited h w)))
 

@@ -5,7 +5,8 @@ use mathlib.Core.Bool.{Bool, true, false, not, cond, _&&_, _||_}
 use mathlib.Core.List.{List, [], _∷_, _++_, List·Memᴰ·cases-cons, List·Memᴰ·not-nil}
 use Prim.Native.Nat.{ℕ, zero, suc, _≤_, _<_, _+_, _-_, _*_}
 use native.Mathlib.Omega.{arith}
-use lib.Dec.{T, ltb, eqb, eqb→eq, nltb→le}
+use borrow.Author.Tests.{ltb-false}
+use lib.Dec.{T, ltb, eqb}
 use lib.IntN.{ℤ}
 use lib.ListN.{length, take, drop, length-append, length-drop}
 use lib.Seq.{drop-at}
@@ -21,23 +22,25 @@ use Rattle.spans.specs.Runs.{flat}
 use Rattle.decide.specs.Decide.{Question, Verdict, Yes, No, Spans, Reply, Contradiction, Answered, answer}
 use Rattle.service.specs.Call.{Buffers, lent, After, after, short, isShort, lentTests, Outcome, Turned, Over, Changed, Asked, judged, replied, effect, onLent, call}
 
--- ---- the lowest number that applies
+-- ---- lent memory
 
--- each number is less than those behind it
-abbrev pub Ascending : List Test → Type 0
-Ascending [] = Unit {0}
-Ascending (t ∷ ts) = ((u : Test) → u ∈ ts → t .number ≤ u .number) × Ascending ts
+-- enough is lent
+pub record Enough (b t k s : ℕ) : Type 0 where
+  pub block : 3104 ≤ b
+  pub labels : 3088 ≤ t
+  pub links : 49408 ≤ k
+  pub spans : 194 ≤ s
 
--- where a test applies, the number given is at most its own
-pub lowest-first : (ts : List Test) → Ascending ts → (t : Test) → t ∈ ts → T (t .applies) → lowest ts ≤ t .number
-lowest-first [] a t m p = absurd (List·Memᴰ·not-nil m)
-lowest-first (u ∷ ts) a t m p = go (u .applies) refl (λ n. lowest-first ts (a .1) t n p) (List·Memᴰ·cases-cons m)
-  where
-    go : (b : Bool) → u .applies ≡ b → (t ∈ ts → lowest ts ≤ t .number) → (t ≡ u) ⊎ (t ∈ ts) → cond b (u .number) (lowest ts) ≤ t .number
-    go true e l (inl d) = subst (λ (v : Test). u .number ≤ v .number) (sym d) (omega arith)
-    go true e l (inr n) = a .0 t n
-    go false e l (inl d) = absurd (subst T (ap (λ (v : Test). v .applies) d ∙ e) p)
-    go false e l (inr n) = l n
+neither : (x y : Bool) → (x || y) ≡ false → (x ≡ false) × (y ≡ false)
+neither true y e = (e, absurd (subst T e tt))
+neither false y e = (refl, e)
+
+pub enough : (b t k s : ℕ) → isShort b t k s ≡ false → Enough b t k s
+enough b t k s e =
+    let (p, d) = neither (ltb b SIZE) (ltb t 3088 || (ltb k 49408 || ltb s 194)) e in
+    let (q, f) = neither (ltb t 3088) (ltb k 49408 || ltb s 194) d in
+    let (r, g) = neither (ltb k 49408) (ltb s 194) f in
+    record { block = ltb-false b SIZE p; labels = ltb-false t 3088 q; links = ltb-false k 49408 r; spans = ltb-false s 194 g }
 
 -- ---- what an answer leaves
 

@@ -46,7 +46,8 @@ good-of b h e = go (good b) e
     go true e = tt
     go false e = let z : _≡_ {A = ℕ} 0 1 = cc in let w : ⊥ = omega arith in absurd w
 
-laws : Laws
+-- the layout's laws, and that accepted records keep the limits
+pub laws : Laws
 laws = record {
   length-encode = λ h w. length-encode h (w .few-rules) (w .few-marks);
   encode-empty = encode-empty;

@@ -2,7 +2,7 @@
 ghost use mathlib.Core.Path.{_≡_};
 ghost use Prim.Native.Nat.{_+_, _≤_, _<_};
 ghost use lib.Dec.{T};
-ghost use lib.ListN.{length};
+ghost use lib.ListN.{length, drop};
 ghost use Rattle.terms.specs.Held.{isStatement};
 ghost use Rattle.terms.specs.declared.Atom.the-variants.{Has};
 ghost use Rattle.terms.specs.declared.Answer.the-variants as Answer;
@@ -156,15 +156,16 @@ fn work(
     }
 }
 
-// One record from the start of the input.
-pub fn record(
+// One record from a place of the input on.
+pub fn record_at(
     block: &mut [u8],
     labels: &mut [u64],
     links: &mut [u8],
     spans: &mut [i32],
     input: &[u8],
+    at: usize,
 ) -> Reply
-    ensures { λ r. ⌜ afterOf r (now (block .exit)) (now (labels .exit)) (now (links .exit)) (now (spans .exit)) ≡ call (lent (now (block .entry)) (now (labels .entry)) (now (links .entry)) (now (spans .entry))) (now (input .entry)) ⌝ }
+    ensures { λ r. ⌜ afterOf r (now (block .exit)) (now (labels .exit)) (now (links .exit)) (now (spans .exit)) ≡ call (lent (now (block .entry)) (now (labels .entry)) (now (links .entry)) (now (spans .entry))) (drop at (now (input .entry))) ⌝ }
 {
     if is_short(block.len(), labels.len(), links.len(), spans.len()) {
         return refused(1, 0);
@@ -172,7 +173,7 @@ pub fn record(
     let loaded = block::load(block);
     if loaded.good {
         let state = loaded.state;
-        return match records::parse(input) {
+        return match reader::read(input, at) {
             Parsed::Nothing => Reply {
                 answer: Answer::End,
                 used: 0,
@@ -190,6 +191,19 @@ pub fn record(
         };
     }
     refused(2, 0)
+}
+
+// One record from the start of the input.
+pub fn record(
+    block: &mut [u8],
+    labels: &mut [u64],
+    links: &mut [u8],
+    spans: &mut [i32],
+    input: &[u8],
+) -> Reply
+    ensures { λ r. ⌜ afterOf r (now (block .exit)) (now (labels .exit)) (now (links .exit)) (now (spans .exit)) ≡ call (lent (now (block .entry)) (now (labels .entry)) (now (links .entry)) (now (spans .entry))) (now (input .entry)) ⌝ }
+{
+    record_at(block, labels, links, spans, input, 0)
 }
 
 // The spans of a label of an item, asked beside the records: the block is read alone.
