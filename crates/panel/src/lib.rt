@@ -1,0 +1,55 @@
+// The panel's calls, for a host program in C: one takes one record, one asks for spans beside the records.
+ghost use mathlib.Core.Path.{_≡_};
+ghost use Rattle.service.specs.Call.{lent, call, spanCall};
+ghost use Rattle.panel.specs.Exported.{packed, clamped, returned, exported};
+use terms::Answer;
+
+// The answer's number in the upper half, its value in the lower.
+fn pack(answer: Answer) -> u32
+    ensures { λ r. ⌜ r ≡ packed answer ⌝ }
+{
+    (answer.number() as u32) * 65536 + (answer.value() as u32)
+}
+
+// A number as a byte; those that no byte holds are no names, and neither is 255.
+fn clamp(n: u32) -> u8
+    ensures { λ r. ⌜ r ≡ clamped n ⌝ }
+{
+    if n < 256 { n as u8 } else { 255 }
+}
+
+// One record from the start of the input.
+#[no_mangle]
+pub extern "C" fn harmikse_record(
+    block: &mut [u8],
+    labels: &mut [u64],
+    links: &mut [u8],
+    spans: &mut [i32],
+    input: &[u8],
+    used: &mut u64,
+) -> u32
+    ensures { λ r. ⌜ returned r (now (used .exit)) (lent (now (block .exit)) (now (labels .exit)) (now (links .exit)) (now (spans .exit))) ≡ exported (call (lent (now (block .entry)) (now (labels .entry)) (now (links .entry)) (now (spans .entry))) (now (input .entry))) ⌝ }
+{
+    let reply = service::record(block, labels, links, spans, input);
+    let n = reply.used;
+    *used = n as u64;
+    let answer = reply.answer;
+    pack(answer)
+}
+
+// The spans of a label of an item. The block is read alone, and no bytes are used.
+#[no_mangle]
+pub extern "C" fn harmikse_spans(
+    block: &[u8],
+    labels: &mut [u64],
+    links: &mut [u8],
+    spans: &mut [i32],
+    item: u32,
+    label: u32,
+) -> u32
+    ensures { λ r. ⌜ returned r 0 (lent (now (block .entry)) (now (labels .exit)) (now (links .exit)) (now (spans .exit))) ≡ exported (spanCall (lent (now (block .entry)) (now (labels .entry)) (now (links .entry)) (now (spans .entry))) item label) ⌝ }
+{
+    let reply = service::spans_of(block, labels, links, spans, clamp(item), clamp(label));
+    let answer = reply.answer;
+    pack(answer)
+}

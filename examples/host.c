@@ -1,0 +1,134 @@
+/*
+ * A host program: lends its memory to the library, feeds it a small section record by record and prints what it says.
+ * The section is the worked example of the specification, and then a question beside the records.
+ */
+#include <harmikse.h>
+
+#include <inttypes.h>
+#include <stdio.h>
+
+/* One well's memory. Static memory starts with zeros, which is the empty state. */
+static uint8_t block[HARMIKSE_BLOCK_BYTES];
+static uint64_t labels[HARMIKSE_LABEL_ENTRIES];
+static uint8_t links[HARMIKSE_LINK_BYTES];
+static int32_t spans[HARMIKSE_SPAN_NUMBERS];
+
+/* The records, as they come over the line. */
+static uint8_t stream[256];
+static size_t stream_len;
+
+static void put_number(uint64_t number, int bytes)
+{
+    for (int i = 0; i < bytes; i++)
+        stream[stream_len++] = (uint8_t)(number >> (8 * i));
+}
+
+/* A record's frame: its length counts the kind and the body. */
+static void begin(int kind, int body_len)
+{
+    put_number((uint64_t)body_len + 2, 2);
+    put_number((uint64_t)kind, 2);
+}
+
+static void add_within(uint32_t n, uint8_t from, uint8_t to)
+{
+    begin(2, 7);
+    put_number(1, 1);
+    put_number(n, 4);
+    put_number(from, 1);
+    put_number(to, 1);
+}
+
+static void add_both(uint8_t a, uint8_t b, uint8_t c)
+{
+    begin(3, 3);
+    put_number(a, 1);
+    put_number(b, 1);
+    put_number(c, 1);
+}
+
+static void put_label(uint8_t item, uint8_t label, int32_t depth)
+{
+    begin(6, 6);
+    put_number(item, 1);
+    put_number(label, 1);
+    put_number((uint32_t)depth, 4);
+}
+
+static void query_label(uint8_t item, uint8_t label, int64_t depth)
+{
+    begin(10, 10);
+    put_number(item, 1);
+    put_number(label, 1);
+    put_number((uint64_t)depth, 8);
+}
+
+static void ask_spans(uint8_t item, uint8_t label)
+{
+    begin(12, 2);
+    put_number(item, 1);
+    put_number(label, 1);
+}
+
+static void print_depth(int32_t depth, int32_t no_end)
+{
+    if (depth == no_end)
+        printf("*");
+    else
+        printf("%" PRId32, depth);
+}
+
+static void print_result(uint32_t result)
+{
+    static const char *const words[] = {"done", "yes", "no", "contradiction", "spans", "end", "refused"};
+    uint32_t answer = HARMIKSE_ANSWER(result);
+    uint32_t value = HARMIKSE_VALUE(result);
+
+    printf("%s", words[answer]);
+    if (answer == HARMIKSE_CONTRADICTION || answer == HARMIKSE_SPANS || answer == HARMIKSE_REFUSED)
+        printf(" %" PRIu32, value);
+    for (uint32_t i = 0; answer == HARMIKSE_SPANS && i < value; i++) {
+        printf(" ");
+        print_depth(spans[2 * i], HARMIKSE_NO_TOP);
+        printf(":");
+        print_depth(spans[2 * i + 1], HARMIKSE_NO_BOTTOM);
+    }
+    printf("\n");
+}
+
+static void write_section(void)
+{
+    add_within(11, 1, 1);
+    add_within(20, 2, 3);
+    add_both(1, 3, 4);
+    put_label(0, 1, 100);
+    put_label(0, 1, 109);
+    put_label(0, 2, 104);
+    put_label(0, 2, 123);
+    query_label(0, 4, 106);
+    query_label(0, 4, 110);
+    ask_spans(0, 4);
+    put_label(0, 1, 100);
+}
+
+int main(void)
+{
+    size_t at = 0;
+
+    write_section();
+    for (int number = 1; at < stream_len; number++) {
+        uint64_t used = 0;
+        uint32_t result = harmikse_record(block, sizeof block, labels, HARMIKSE_LABEL_ENTRIES, links, sizeof links,
+                                          spans, HARMIKSE_SPAN_NUMBERS, stream + at, stream_len - at, &used);
+
+        printf("%d ", number);
+        print_result(result);
+        if (used == 0)
+            return 1;
+        at += (size_t)used;
+    }
+    printf("beside the records: ");
+    print_result(harmikse_spans(block, sizeof block, labels, HARMIKSE_LABEL_ENTRIES, links, sizeof links, spans,
+                                HARMIKSE_SPAN_NUMBERS, 0, 0));
+    return 0;
+}

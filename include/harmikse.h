@@ -1,0 +1,127 @@
+/*
+ * Harmikse: the depth label service, as a C library.
+ *
+ * The caller lends four pieces of memory and the bytes of a record; the library holds nothing between calls, allocates
+ * nothing, calls nothing of the host's and has no global state.
+ *
+ *   block   the state: every rule and mark accepted so far. All zeros is the empty state. Keep it from call to call and
+ *           write it with nothing else: a block that no run of records leads to is refused with 2.
+ *   labels  the label table, 64-bit numbers: entry item * 193 + piece, bit = label.
+ *   links   the link table, bytes: entry (from * 16 + to) * 193 + piece, bit = link kind.
+ *   spans   the span buffer: pairs of top and bottom, in centimetres.
+ *
+ * Each is a pointer and a length in elements. Lengths may be larger than the sizes below: what lies behind is never
+ * written. What tables and span buffer hold before a call plays no part; they need no clearing.
+ *
+ * Ownership: all memory stays the caller's, and is used during the call alone. Of block, labels, links, spans and used
+ * none may overlap another, and none may overlap the input. Pointers are aligned for their type. Where a length is 0 the
+ * pointer is not used.
+ *
+ * Threads: calls on different memory are independent and may run at once. Memory that is lent to a call belongs to that
+ * call until it returns; a block belongs to one call at a time. harmikse_spans only reads the block, so calls of it may
+ * share a block while no harmikse_record has it, each with tables and span buffer of its own.
+ *
+ * Stack: leave 160 KiB for a call (HARMIKSE_STACK_BYTES).
+ *
+ * Refusals leave all lent memory unchanged. After a question (yes, no, contradiction, spans) both tables show what the
+ * held marks and rules derive; after anything else they are as lent. Only an answer of spans writes the span buffer.
+ */
+#ifndef HARMIKSE_H
+#define HARMIKSE_H
+
+#include <stddef.h>
+#include <stdint.h>
+
+#ifdef __cplusplus
+extern "C" {
+#endif
+
+/* The least lengths, in elements. */
+#define HARMIKSE_BLOCK_BYTES 3104
+#define HARMIKSE_LABEL_ENTRIES 3088
+#define HARMIKSE_LINK_BYTES 49408
+#define HARMIKSE_SPAN_NUMBERS 194
+
+/* Pieces of the line in a row of either table, and the most pairs that an answer of spans writes. */
+#define HARMIKSE_PIECES 193
+#define HARMIKSE_MOST_SPANS 97
+
+/* In a pair: no end on that side. */
+#define HARMIKSE_NO_TOP INT32_MIN
+#define HARMIKSE_NO_BOTTOM INT32_MAX
+
+/* Room on the stack for a call. */
+#define HARMIKSE_STACK_BYTES 163840
+
+/* What a call returns: the answer's number in the upper half, its value in the lower. */
+#define HARMIKSE_ANSWER(result) ((uint32_t)(result) >> 16)
+#define HARMIKSE_VALUE(result) ((uint32_t)(result) & 0xffffu)
+
+enum harmikse_answer {
+    HARMIKSE_DONE = 0,
+    HARMIKSE_YES = 1,
+    HARMIKSE_NO = 2,
+    HARMIKSE_CONTRADICTION = 3, /* value: the lowest item that has NEVER */
+    HARMIKSE_SPANS = 4,         /* value: how many pairs were written */
+    HARMIKSE_END = 5,           /* no byte was left */
+    HARMIKSE_REFUSED = 6        /* value: one of the numbers below */
+};
+
+enum harmikse_refusal {
+    HARMIKSE_SHORT_MEMORY = 1,   /* block, a table or span buffer too short */
+    HARMIKSE_BAD_BLOCK = 2,      /* a block that no run of records from all zeros leads to */
+    HARMIKSE_BAD_FRAME = 3,      /* 1 to 3 bytes left, or a length under 2 or past the input */
+    HARMIKSE_UNKNOWN_KIND = 4,
+    HARMIKSE_WRONG_LENGTH = 5,   /* length not that of the kind */
+    HARMIKSE_BAD_NAME = 6,       /* an item, label or link kind out of range */
+    HARMIKSE_BAD_OPERATOR = 7,   /* code or n out of range */
+    HARMIKSE_BAD_DEPTH = 8,      /* a mark's depth out of range */
+    HARMIKSE_ALREADY_HELD = 9,   /* a rule, or a mark to put */
+    HARMIKSE_NOT_HELD = 10,      /* a mark to take */
+    HARMIKSE_LIST_FULL = 11,     /* 128 rules or 256 marks */
+    HARMIKSE_DEPTHS_FULL = 12    /* a mark at a 97th depth */
+};
+
+/*
+ * Takes one record from the start of the input, where input is all the bytes that are left, and says in *used how many
+ * bytes it used: go on with input + *used. 0 bytes are used for the refusals 1 and 2 and for end, all that is left for 3.
+ */
+uint32_t harmikse_record(uint8_t *block, size_t block_len,
+                         uint64_t *labels, size_t labels_len,
+                         uint8_t *links, size_t links_len,
+                         int32_t *spans, size_t spans_len,
+                         const uint8_t *input, size_t input_len,
+                         uint64_t *used);
+
+/*
+ * Asks for the spans of a label of an item, as the record SPANS does, without a record. Answers spans or contradiction, or
+ * is refused with 1, 2, or 6 for an item over 15 or a label over 63. The block is never written.
+ */
+uint32_t harmikse_spans(const uint8_t *block, size_t block_len,
+                        uint64_t *labels, size_t labels_len,
+                        uint8_t *links, size_t links_len,
+                        int32_t *spans, size_t spans_len,
+                        uint32_t item, uint32_t label);
+
+/*
+ * A short example: a mark of label 1 on item 0 at 100 cm is put, and its spans are asked for.
+ *
+ *     static uint8_t block[HARMIKSE_BLOCK_BYTES];
+ *     static uint64_t labels[HARMIKSE_LABEL_ENTRIES];
+ *     static uint8_t links[HARMIKSE_LINK_BYTES];
+ *     static int32_t spans[HARMIKSE_SPAN_NUMBERS];
+ *     static const uint8_t put[] = {8, 0, 6, 0, 0, 1, 100, 0, 0, 0};
+ *     uint64_t used;
+ *     uint32_t r = harmikse_record(block, sizeof block, labels, HARMIKSE_LABEL_ENTRIES, links, sizeof links,
+ *                                  spans, HARMIKSE_SPAN_NUMBERS, put, sizeof put, &used);
+ *     if (HARMIKSE_ANSWER(r) == HARMIKSE_DONE)
+ *         r = harmikse_spans(block, sizeof block, labels, HARMIKSE_LABEL_ENTRIES, links, sizeof links,
+ *                            spans, HARMIKSE_SPAN_NUMBERS, 0, 1);
+ *     // now HARMIKSE_ANSWER(r) is HARMIKSE_SPANS, HARMIKSE_VALUE(r) is 1, and spans[0] and spans[1] are 100
+ */
+
+#ifdef __cplusplus
+}
+#endif
+
+#endif
