@@ -75,7 +75,7 @@ fn signed64(x: u64) -> i64
 }
 
 // A signed number's bits, two's complement; `signed32` turned round.
-fn bits32(z: i32) -> u32
+pub fn bits32(z: i32) -> u32
     ensures { λ r. ⌜ r ≡ ofZ w32 z ⌝ }
 {
     if z < 0 {

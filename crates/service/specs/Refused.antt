@@ -1,7 +1,7 @@
 -- Demand 1, the numbers: 01's table of refusals as one list of tests for each call, and the record call by the lowest that applies. Assumes nothing.
 use mathlib.Core.Path.{_≡_, refl, sym, ap, _∙_, subst}
-use mathlib.Core.Logic.{_⊎_, inl, inr}
-use mathlib.Core.Bool.{Bool, true, false, cond}
+use mathlib.Core.Logic.{_⊎_, inl, inr, _↔_}
+use mathlib.Core.Bool.{Bool, true, false, not, cond}
 use mathlib.Core.List.{List, [], _∷_, _++_}
 use Prim.Native.Nat.{ℕ, _+_, _≤_, _<_}
 use native.Mathlib.Omega.{arith}
@@ -12,7 +12,7 @@ use lib.ListN.{length}
 use Rattle.terms.specs.declared.Answer.the-variants as Answer
 use Rattle.terms.specs.Refusals.{Test, test, lowest}
 use Rattle.terms.specs.Held.{_∈_, Held}
-use Rattle.block.specs.Block.{readHeld}
+use Rattle.block.specs.Block.{readHeld, good}
 use Rattle.records.specs.declared.Command.{Command}
 use Rattle.records.specs.declared.Command.the-variants as Command
 use Rattle.records.specs.declared.Decoded.{Decoded}
@@ -22,7 +22,7 @@ use Rattle.records.specs.declared.Parsed.the-variants as Parsed
 use Rattle.records.specs.Records.{lengthField, kindField, bodyOf, frameTests, decodedBy, decodeBody, withUsed, usedBy, parse}
 use Rattle.records.specs.Body.{bodyTests, commandIn, decode-by-tests}
 use Rattle.decide.specs.Decide.{Ask, SpansOf, Yes, No, Spans, Reply, Contradiction, Answered, answer}
-use Rattle.service.specs.Call.{Buffers, After, after, lentTests, Turned, Over, listTests, obey, judged, replied, effect, onLent, call}
+use Rattle.service.specs.Call.{Buffers, After, after, short, lentTests, Turned, Over, listTests, obey, judged, replied, effect, onLent, call}
 use Rattle.service.specs.Ascending.{Ascends, wider, ascends-append, lowest-first, lowest-applies, lowest-some, lowest-in, lowest-append}
 
 -- what the record says, where no test of frame and body applies
@@ -280,3 +280,37 @@ pub applies-refused : (m : Buffers) (s : List ℕ) (t : Test) → t ∈ tests m 
 applies-refused m s t i a =
     let p = lowest-some 1 12 (tests m s) (omega arith) (tests-ascend m s) t i a in
     ap (λ (x : After). x .answer) (call-by-tests m s) ∙ ap (λ v. cond v (accepted m s) (after (Answer.Refused (lowest (tests m s))) (usedFor (lowest (tests m s)) s) m) .answer) (ne-eqb (lowest (tests m s)) 0 (λ z. omega (arith, p, z)))
+
+-- ---- number 2
+
+lent-number : (p g : Bool) → lowest (test p 1 ∷ test (not g) 2 ∷ []) ≡ 2 → (p ≡ false) × (g ≡ false)
+lent-number true g e = let z : ⊥ = omega arith in absurd z
+lent-number false true e = let z : ⊥ = omega arith in absurd z
+lent-number false false e = (refl, refl)
+
+-- it is given exactly where enough is lent and the block is not good
+pub two-by-block : (m : Buffers) (s : List ℕ) → (call m s .answer ≡ Answer.Refused 2) ↔ ((short m ≡ false) × (good (m .block) ≡ false))
+unfolding tests
+two-by-block m s = (there, back)
+  where
+    rest : ℕ
+    rest = lowest (inputTests (readHeld (m .block)) s)
+
+    parts : lowest (tests m s) ≡ or-else (lowest (lentTests m)) rest
+    parts = lowest-append 2 (lentTests m) (inputTests (readHeld (m .block)) s) (lent-ascends m)
+
+    of-lent : (a r : ℕ) → (r ≡ 0) ⊎ ((3 ≤ r) × (r ≤ 12)) → Dec (a ≡ 0) → or-else a r ≡ 2 → a ≡ 2
+    of-lent a r (inl z) (yes e) f = let y : ⊥ = omega (arith, z, sym (ap (λ v. or-else v r) e) ∙ f) in absurd y
+    of-lent a r (inr w) (yes e) f = let y : ⊥ = omega (arith, w .0, sym (ap (λ v. or-else v r) e) ∙ f) in absurd y
+    of-lent a r c (no p) f = sym (ap (λ v. cond v r a) (ne-eqb a 0 p)) ∙ f
+
+    there : call m s .answer ≡ Answer.Refused 2 → (short m ≡ false) × (good (m .block) ≡ false)
+    there e =
+        let (p, q) = refused-number m s 2 (lowest (tests m s)) (sym (ap (λ (x : After). x .answer) (call-by-tests m s)) ∙ e) in
+        lent-number (short m) (good (m .block))
+        (of-lent (lowest (lentTests m)) rest (lowest-in 3 12 (inputTests (readHeld (m .block)) s) (input-ascends (readHeld (m .block)) s)) (ℕ-discrete (lowest (lentTests m)) 0) (sym parts ∙ q))
+
+    back : (short m ≡ false) × (good (m .block) ≡ false) → call m s .answer ≡ Answer.Refused 2
+    back w =
+        let a : lowest (lentTests m) ≡ 2 = ap (λ v. lowest (test v 1 ∷ test (not (good (m .block))) 2 ∷ [])) (w .0) ∙ ap (λ v. lowest (test false 1 ∷ test (not v) 2 ∷ [])) (w .1) in
+        ap (λ (x : After). x .answer) (call-by-tests m s) ∙ ap (λ v. verdict m s v .answer) (parts ∙ ap (λ v. or-else v rest) a)

@@ -1,7 +1,7 @@
 -- The claims, with nothing in front of them. Assumes nothing.
 use mathlib.Core.Path.{_≡_, refl, sym, ap, _∙_, subst}
 use mathlib.Core.Logic.{_↔_}
-use mathlib.Core.Bool.{Bool, true, false, not, cond, _&&_}
+use mathlib.Core.Bool.{Bool, true, false, not, cond, _&&_, true≢false}
 use mathlib.Core.List.{List, _++_}
 use Prim.Native.Nat.{ℕ, _≤_}
 use native.Mathlib.Omega.{arith}
@@ -9,6 +9,7 @@ use lib.Dec.{T}
 use lib.ListN.{length, take}
 use Rattle.terms.specs.declared.Rule.{Rule}
 use Rattle.terms.specs.declared.Mark.{Mark}
+use Rattle.terms.specs.declared.Answer.the-variants as Answer
 use Rattle.terms.specs.Tests.{and-both, true-of, of-true}
 use Rattle.terms.specs.Refusals.{lowest}
 use Rattle.terms.specs.Held.{Held, isRule, isMark}
@@ -23,7 +24,9 @@ use Rattle.records.specs.declared.Parsed.{Parsed}
 use Rattle.records.specs.declared.Parsed.the-variants as Parsed
 use Rattle.records.specs.Records.{parse}
 use Rattle.records.specs.Proper.{Proper, parse-proper, write, parse-write}
-use Rattle.service.specs.Call.{Outcome, listTests, obey}
+use Rattle.service.specs.Call.{Buffers, short, listTests, obey, call}
+use Rattle.service.specs.Refused.{two-by-block}
+use Rattle.service.specs.Total.{enough}
 use Rattle.service.specs.Kept.{Within, empty-within, added-within, put-within, taken-within}
 use Rattle.service.specs.Life.{Event, Agrees, Keeps, Laws, lived}
 use Rattle.service.specs.Reach.{Run-to, Written, good-exactly}
@@ -72,3 +75,20 @@ reached-exactly b l =
     (λ m p. record { bytes = write (Command.Put m); used = length (write (Command.Put m)); reads = parse-write (Command.Put m) p })
     (λ b l t. let w = decode-holds b (readHeld b) (decoded b t) in (readHeld b, w .0, w .1))
     b l
+
+-- and so the number is given exactly where enough is lent and no run of records leads to the block
+pub two-exactly : (m : Buffers) (s : List ℕ) → (call m s .answer ≡ Answer.Refused 2) ↔ ((short m ≡ false) × (Run-to (take SIZE (m .block)) → ⊥))
+two-exactly m s = (there, back)
+  where
+    room : short m ≡ false → SIZE ≤ length (m .block)
+    room e = enough (length (m .block)) (length (m .labels)) (length (m .links)) (length (m .spans)) e .block
+
+    there : call m s .answer ≡ Answer.Refused 2 → (short m ≡ false) × (Run-to (take SIZE (m .block)) → ⊥)
+    there e = let (p, g) = two-by-block m s .0 e in (p, λ r. true≢false (sym (true-of (good (m .block)) (reached-exactly (m .block) (room p) .1 r)) ∙ g))
+
+    bad : (b : List ℕ) → SIZE ≤ length b → (Run-to (take SIZE b) → ⊥) → (g : Bool) → good b ≡ g → g ≡ false
+    bad b l f true e = absurd (f (reached-exactly b l .0 (of-true e)))
+    bad b l f false e = refl
+
+    back : (short m ≡ false) × (Run-to (take SIZE (m .block)) → ⊥) → call m s .answer ≡ Answer.Refused 2
+    back w = two-by-block m s .1 (w .0, bad (m .block) (room (w .0)) (w .1) (good (m .block)) refl)

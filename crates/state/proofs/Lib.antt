@@ -1,4 +1,3 @@
-pub mod Signed
 pub mod Scan
 pub mod Exact
 pub mod Keyed

@@ -45,17 +45,6 @@ pub struct Listed {
     pub state: State,
 }
 
-// A signed number's bits, two's complement.
-fn bits32(z: i32) -> u32
-    ensures { λ r. ⌜ r ≡ ofZ w32 z ⌝ }
-{
-    if z < 0 {
-        0xffff_ffff - ((-1 - z) as u32)
-    } else {
-        z as u32
-    }
-}
-
 // Five fields in one number.
 fn pack(tag: u8, first: u8, second: u8, third: u8, n: u32) -> u64
     ensures { λ r. ⌜ r ≡ packed tag first second third n ⌝ }
@@ -81,7 +70,7 @@ fn mark_key(mark: Mark) -> u64
     ensures { λ r. ⌜ Key-of markKey MarkFits mark r ⌝ }
 {
     let atom = mark.atom;
-    let depth = bits32(mark.depth);
+    let depth = codec::bits32(mark.depth);
     match atom {
         Atom::Has(item, label) => pack(0, item, label, 0, depth),
         Atom::Linked(from, kind, to) => pack(1, from, kind, to, depth),
@@ -92,7 +81,7 @@ fn mark_key(mark: Mark) -> u64
 fn depth_key(mark: Mark) -> u64
     ensures { λ r. ⌜ Key-of depthKey DepthFits mark r ⌝ }
 {
-    bits32(mark.depth) as u64
+    codec::bits32(mark.depth) as u64
 }
 
 // The keys of the first places.

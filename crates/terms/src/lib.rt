@@ -221,6 +221,13 @@ impl Mark {
     }
 }
 
+// A name as an index.
+pub fn wide(name: u8) -> usize
+    ensures { λ r. ⌜ r ≡ name ⌝ }
+{
+    name as usize
+}
+
 pub enum Answer {
     Done,
     Yes,

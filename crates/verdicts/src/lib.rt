@@ -7,12 +7,6 @@ ghost use Rattle.terms.specs.Held.{isStatement};
 ghost use Rattle.verdicts.specs.Reading.{neverIn, clashItem, holdsIn};
 use terms::Atom;
 
-fn wide(x: u8) -> usize
-    ensures { λ r. ⌜ r ≡ x ⌝ }
-{
-    x as usize
-}
-
 fn wide_word(x: u8) -> u64
     ensures { λ r. ⌜ r ≡ x ⌝ }
 {
@@ -56,10 +50,14 @@ pub fn holds(labels: &[u64], links: &[u8], atom: Atom, p: usize) -> bool
     ensures { λ r. ⌜ r ≡ holdsIn (now (labels .entry)) (now (links .entry)) atom p ⌝ }
 {
     match atom {
-        Atom::Has(item, label) => words::bit(labels[wide(item) * 193 + p], wide(label)) == 1,
+        Atom::Has(item, label) => words::bit(
+            labels[terms::wide(item) * 193 + p],
+            terms::wide(label),
+        )
+            == 1,
         Atom::Linked(from, kind, to) => {
-            let at = (wide(from) * 16 + wide(to)) * 193 + p;
-            words::bit(wide_word(links[at]), wide(kind)) == 1
+            let at = (terms::wide(from) * 16 + terms::wide(to)) * 193 + p;
+            words::bit(wide_word(links[at]), terms::wide(kind)) == 1
         }
     }
 }

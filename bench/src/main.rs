@@ -1,0 +1,79 @@
+//! Measures the derivation on generated full sections, against the naive way.
+//!
+//! bench                                        times of all operations
+//! bench blocks FILE                            writes the loaded blocks
+//! bench count FILE OPERATION ROUNDS SECTIONS   does one operation on the blocks of FILE and nothing else
+
+mod case;
+mod clock;
+mod naive;
+mod panel;
+mod random;
+mod records;
+mod report;
+mod section;
+
+use std::env;
+use std::fs;
+use std::process::ExitCode;
+
+use case::{Bench, Case, Operation};
+use section::{Section, SECTIONS};
+
+fn sections() -> impl Iterator<Item = Section> {
+    (1..=SECTIONS).map(Section::generate)
+}
+
+fn loaded() -> Vec<Case> {
+    let mut panel = panel::Panel::new();
+    sections()
+        .map(|section| Case::load(section, &mut panel))
+        .collect()
+}
+
+fn write_blocks(file: &str) {
+    let blocks: Vec<u8> = loaded().iter().flat_map(Case::bytes).collect();
+    fs::write(file, blocks).expect("the file of blocks");
+}
+
+fn read_blocks(file: &str, count: usize) -> Vec<Case> {
+    let bytes = fs::read(file).expect("the file of blocks");
+    let blocks = bytes.chunks_exact(2 * panel::BLOCK_LEN);
+    let cases = sections().zip(blocks).take(count);
+    cases
+        .map(|(section, blocks)| Case::from_bytes(section, blocks))
+        .collect()
+}
+
+/// Two runs that differ in `rounds` alone differ by that many operations on each section.
+fn count(cases: &[Case], operation: Operation, rounds: usize) {
+    let mut bench = Bench::new();
+    for case in cases.iter().cycle().take(cases.len() * rounds) {
+        case.prepare(operation, &mut bench);
+        case.run(operation, &mut bench);
+    }
+}
+
+fn dispatch(words: &[&str]) -> Option<()> {
+    match words {
+        [] => report::report(&loaded()),
+        ["blocks", file] => write_blocks(file),
+        ["count", file, operation, rounds, sections] => {
+            let operation = Operation::from_name(operation)?;
+            let cases = read_blocks(file, sections.parse().ok()?);
+            count(&cases, operation, rounds.parse().ok()?);
+        }
+        _ => return None,
+    }
+    Some(())
+}
+
+fn main() -> ExitCode {
+    let words: Vec<String> = env::args().skip(1).collect();
+    let words: Vec<&str> = words.iter().map(String::as_str).collect();
+    if dispatch(&words).is_none() {
+        eprintln!("usage: bench [blocks FILE | count FILE OPERATION ROUNDS SECTIONS]");
+        return ExitCode::FAILURE;
+    }
+    ExitCode::SUCCESS
+}

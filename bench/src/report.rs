@@ -1,0 +1,153 @@
+//! Times of all operations over all sections, in one run, with the tables compared.
+
+use std::mem::discriminant;
+use std::time::Duration;
+
+use crate::case::{Bench, Case, Operation};
+use crate::clock;
+use crate::naive::Tables;
+use crate::panel;
+use crate::section::{Rule, Section};
+
+/// Each time is the best of this many.
+const ROUNDS: usize = 8;
+
+/// Times of one section in the order of `Operation::ALL`, and what was seen on the way.
+struct Measured {
+    best: [Duration; Operation::ALL.len()],
+    passes: usize,
+    contradiction: bool,
+}
+
+fn timed(case: &Case, operation: Operation, bench: &mut Bench) -> (Duration, u32) {
+    case.prepare(operation, bench);
+    let start = clock::now();
+    let answer = case.run(operation, bench);
+    (clock::now() - start, answer)
+}
+
+/// What the operation has to answer: the question is about a mark, which is yes unless NEVER was derived.
+fn expected(operation: Operation, contradiction: bool) -> u32 {
+    match operation {
+        Operation::Naive | Operation::Put => panel::DONE,
+        Operation::Load => panel::END,
+        _ if contradiction => panel::CONTRADICTION,
+        _ => panel::YES,
+    }
+}
+
+fn has_never(tables: &Tables) -> bool {
+    tables.labels.iter().any(|entry| entry >> 63 == 1)
+}
+
+/// All operations once, in the order of these places.
+fn round(case: &Case, bench: &mut Bench, order: &[usize], best: &mut [Duration]) {
+    for &place in order {
+        let operation = Operation::ALL[place];
+        let (time, answer) = timed(case, operation, bench);
+        let contradiction = has_never(&bench.naive);
+        assert_eq!(answer, expected(operation, contradiction), "answer");
+        best[place] = time.min(best[place]);
+    }
+    assert!(bench.naive == bench.panel.tables, "the tables differ");
+}
+
+fn measure(case: &Case, bench: &mut Bench) -> Measured {
+    let mut best = [Duration::MAX; Operation::ALL.len()];
+    let mut order: Vec<usize> = (0..best.len()).collect();
+    for _ in 0..ROUNDS {
+        round(case, bench, &order, &mut best);
+        // Each second round goes backwards, so that no operation always runs behind the same one.
+        order.reverse();
+    }
+    Measured {
+        best,
+        passes: bench.naive.derive(&case.section),
+        contradiction: has_never(&bench.naive),
+    }
+}
+
+/// The section without the rules of one kind derives less.
+fn kind_derives(section: &Section, kind: &Rule, all: &Tables) -> bool {
+    let other = |rule: &&Rule| discriminant(*rule) != discriminant(kind);
+    let rest = Section {
+        rules: section.rules.iter().filter(other).copied().collect(),
+        marks: section.marks.clone(),
+    };
+    let mut tables = Tables::new();
+    tables.derive(&rest);
+    tables != *all
+}
+
+/// Rules of all four kinds have a part in what the section derives.
+fn check_kinds(section: &Section) {
+    let mut all = Tables::new();
+    all.derive(section);
+    let derives = |rule: &Rule| kind_derives(section, rule, &all);
+    let mut kinds: Vec<Rule> = Vec::new();
+    for rule in &section.rules {
+        if kinds
+            .iter()
+            .all(|kind| discriminant(kind) != discriminant(rule))
+        {
+            kinds.push(*rule);
+        }
+    }
+    assert!(
+        kinds.len() == 4 && kinds.iter().all(derives),
+        "a kind of rules derives nothing"
+    );
+}
+
+/// Least, median and greatest.
+fn spread<T: PartialOrd + Copy>(values: impl Iterator<Item = T>) -> (T, T, T) {
+    let mut sorted: Vec<T> = values.collect();
+    sorted.sort_by(|a, b| a.partial_cmp(b).expect("numbers"));
+    (
+        sorted[0],
+        sorted[sorted.len() / 2],
+        sorted[sorted.len() - 1],
+    )
+}
+
+fn micros(measured: &Measured, place: usize) -> f64 {
+    measured.best[place].as_nanos() as f64 / 1_000.0
+}
+
+fn print_sections(all: &[Measured]) {
+    let contradictions = all.iter().filter(|one| one.contradiction).count();
+    let (least, median, most) = spread(all.iter().map(|one| one.passes));
+    println!(
+        "{} sections, {contradictions} with a contradiction",
+        all.len()
+    );
+    println!("naive passes: median {median}, from {least} to {most}");
+    println!("processor time, best of {ROUNDS}");
+}
+
+fn print_spread(name: &str, values: impl Iterator<Item = f64>) {
+    let (least, median, most) = spread(values);
+    println!("{name:<24}{median:>10.1}{least:>10.1}{most:>10.1}");
+}
+
+fn print_times(all: &[Measured]) {
+    println!(
+        "{:<24}{:>10}{:>10}{:>10}",
+        "microseconds", "median", "least", "most"
+    );
+    for (place, operation) in Operation::ALL.into_iter().enumerate() {
+        print_spread(operation.name(), all.iter().map(|one| micros(one, place)));
+    }
+    let ratios = all.iter().map(|one| micros(one, 0) / micros(one, 1));
+    print_spread("naive / question", ratios);
+}
+
+pub fn report(cases: &[Case]) {
+    let mut bench = Bench::new();
+    for case in cases {
+        check_kinds(&case.section);
+    }
+    let all: Vec<Measured> = cases.iter().map(|case| measure(case, &mut bench)).collect();
+    print_sections(&all);
+    print_times(&all);
+}

@@ -1,0 +1,56 @@
+-- The checksum stays below its modulus.
+use Prim.Native.Nat.{_≤_, _<_, _-_}
+use lib.ListN.{length}
+use borrow.Author.Needs.{needs}
+use Rattle.vectors.proofs.sums.of_depths.Statement.{statement}
+use Rattle.vectors.proofs.sums.of_depths.Tie as tie
+
+abbrev Inv-loop : tie.InvT-loop
+Inv-loop s h₀ i₀ h i =
+    (i ≤ length s) × (h < 4294967291)
+
+abbrev μ-loop : tie.MeasureT-loop
+μ-loop s h₀ i₀ h i = length s - i
+
+loop-holds : tie.Need-loop-holds Inv-loop μ-loop
+loop-holds c = search needs
+
+mul-wide-bits : tie.Need-mul-wide-bits Inv-loop μ-loop
+mul-wide-bits c = search needs
+
+shared-slice-copy-out-wide-bits : tie.Need-shared-slice-copy-out-wide-bits Inv-loop μ-loop
+shared-slice-copy-out-wide-bits c = search needs
+
+wide-bits-requires : tie.Need-wide-bits-requires Inv-loop μ-loop
+wide-bits-requires c κs = search needs
+
+mix-requires : tie.Need-mix-requires Inv-loop μ-loop
+mix-requires c κs = search needs
+
+add-i : tie.Need-add-i Inv-loop μ-loop
+add-i c = search needs
+
+loop-less : tie.Need-loop-less Inv-loop μ-loop
+loop-less c = search needs
+
+loop-again : tie.Need-loop-again Inv-loop μ-loop
+loop-again c = search needs
+
+returns : tie.Need-returns Inv-loop μ-loop
+returns c = search needs
+
+pub of-depths-spec : {M : Type 1} → statement M
+of-depths-spec =
+    tie.close
+    (tie.spec
+    Inv-loop
+    μ-loop
+    loop-holds
+    mul-wide-bits
+    shared-slice-copy-out-wide-bits
+    wide-bits-requires
+    mix-requires
+    add-i
+    loop-less
+    loop-again
+    returns)

@@ -1,0 +1,71 @@
+//! Writes stored test inputs of the program and what it has to print.
+//! `corpus wells FOLDER`: a hundred wells; `corpus limits FOLDER`: inputs at the size limit.
+
+mod limits;
+mod well;
+
+use dice::Dice;
+use model::listing::{listing, MAX_INPUT};
+use std::path::Path;
+use well::{Size, Well};
+
+const WELLS: u64 = 100;
+
+/// From a few marks to full lists; each tenth well goes over its limits.
+fn size(number: u64) -> Size {
+    let mut dice = Dice::new(1_000 + number);
+    let large = number % 10;
+    let size = Size {
+        rules: 6 + 12 * large,
+        marks: 5 + 25 * large,
+        items: dice.pick(&[1, 3, 5, 16]),
+        step: dice.pick(&[3, 60, 400, 1_500]),
+        deeper: 38,
+        strict: dice.percent(25),
+        sections: 1 + u64::from(number % 7 == 3) + 6 * u64::from(number == 99),
+        broken_end: number == 42,
+    };
+    match large {
+        8 => Size { deeper: 60, ..size },
+        9 => Size {
+            rules: 140,
+            marks: 320,
+            items: 16,
+            deeper: 22,
+            ..size
+        },
+        _ => size,
+    }
+}
+
+fn write(folder: &Path, name: &str, records: &[u8]) -> std::io::Result<()> {
+    std::fs::write(folder.join(format!("{name}.records")), records)?;
+    std::fs::write(folder.join(format!("{name}.listing")), listing(records))
+}
+
+fn wells(folder: &Path) -> std::io::Result<()> {
+    (0..WELLS).try_for_each(|number| {
+        let records = Well::new(number, size(number)).stream();
+        assert!(records.len() <= MAX_INPUT, "well {number} is too long");
+        write(folder, &format!("{number:02}"), &records)
+    })
+}
+
+fn limits(folder: &Path) -> std::io::Result<()> {
+    write(folder, "empty", &[])?;
+    let full = limits::full();
+    write(folder, "full", &full)?;
+    write(folder, "over", &[&full[..], &[0]].concat())
+}
+
+fn main() -> std::io::Result<()> {
+    let arguments: Vec<String> = std::env::args().collect();
+    let [_, what, folder] = &arguments[..] else {
+        panic!("say wells or limits, and a folder");
+    };
+    match what.as_str() {
+        "wells" => wells(Path::new(folder)),
+        "limits" => limits(Path::new(folder)),
+        _ => panic!("say wells or limits"),
+    }
+}

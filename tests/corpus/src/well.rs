@@ -1,0 +1,228 @@
+//! A well as a stream of records: rules, then a drilled section with questions in between.
+
+use dice::Dice;
+use model::frame::{bytes, framed};
+use model::short::*;
+use model::terms::*;
+
+const SAND: u8 = 1;
+const SHALE: u8 = 2;
+const LIME: u8 = 3;
+const GAS: u8 = 4;
+const OIL: u8 = 5;
+const WATER: u8 = 6;
+const SHOE: u8 = 7;
+const CASED: u8 = 8;
+const UNIT: u8 = 9;
+const RESERVOIR: u8 = 10;
+const PAY: u8 = 11;
+const SEALED: u8 = 12;
+const FED: u8 = 13;
+const WET: u8 = 14;
+/// Labels from here on serve the rules that a house adds for itself.
+const HOUSE: u8 = 15;
+
+const TOUCHES: u8 = 0;
+const FEEDS: u8 = 1;
+const SEALS: u8 = 2;
+
+pub struct Size {
+    pub rules: u64,
+    pub marks: u64,
+    pub items: u64,
+    pub step: i64,
+    /// How often, in percent, the bit goes deeper before the next mark.
+    pub deeper: u64,
+    /// Gas in a wet place is contradictory, or just wet.
+    pub strict: bool,
+    pub sections: u64,
+    pub broken_end: bool,
+}
+
+pub struct Well {
+    dice: Dice,
+    size: Size,
+    depth: i64,
+    marks: Vec<Mark>,
+    stream: Vec<u8>,
+}
+
+fn common_rules() -> Vec<Record> {
+    vec![
+        label(within(301), SAND, SAND),
+        label(within(501), SHALE, SHALE),
+        label(within(401), LIME, LIME),
+        label(within(151), GAS, GAS),
+        label(within(151), OIL, OIL),
+        label(whole(ABOVE), SHOE, CASED),
+        label(whole(BELOW), WATER, WET),
+        label(whole(BETWEEN), UNIT, UNIT),
+        both(SAND, OIL, RESERVOIR),
+        both(SAND, GAS, RESERVOIR),
+        both(RESERVOIR, UNIT, PAY),
+        link_rule(within(1_001), TOUCHES, TOUCHES),
+        link_rule(whole(BETWEEN), FEEDS, FEEDS),
+        link_rule(whole(ANYWHERE), SEALS, SEALS),
+        via(FEEDS, RESERVOIR, FED),
+        via(SEALS, SHALE, SEALED),
+        both(FED, SEALED, PAY),
+    ]
+}
+
+impl Well {
+    pub fn new(seed: u64, size: Size) -> Well {
+        let mut dice = Dice::new(seed);
+        let depth = dice.between(-800, 5_000);
+        Well {
+            dice,
+            size,
+            depth,
+            marks: Vec::new(),
+            stream: Vec::new(),
+        }
+    }
+
+    pub fn stream(mut self) -> Vec<u8> {
+        (0..self.size.sections).for_each(|section| self.section(section));
+        if self.size.broken_end {
+            self.stream.extend([12, 0, 10, 0, 0, PAY, 7]);
+        }
+        self.stream
+    }
+
+    fn send(&mut self, record: Record) {
+        self.stream.extend(bytes(&record));
+    }
+
+    /// One drilled section; the next one starts with a reset.
+    fn section(&mut self, number: u64) {
+        if number > 0 {
+            self.send(Record::Reset);
+            self.marks.clear();
+        }
+        self.rules();
+        (0..self.size.marks).for_each(|_| self.drill());
+        self.report();
+    }
+
+    fn rules(&mut self) {
+        let mut rules = common_rules();
+        let gas_and_water = if self.size.strict { NEVER } else { WET };
+        rules.push(both(GAS, WET, gas_and_water));
+        rules.truncate(self.size.rules as usize);
+        let more = self.size.rules - rules.len() as u64;
+        rules.extend((0..more).map(|_| self.house_rule()));
+        rules.into_iter().for_each(|rule| self.send(rule));
+    }
+
+    /// Builds on the labels before, so that the rules form chains.
+    fn house_rule(&mut self) -> Record {
+        let concluded = self.dice.between(HOUSE.into(), 62) as u8;
+        let mut left = || self.dice.between(1, i64::from(concluded) - 1) as u8;
+        let (a, b) = (left(), left());
+        let kind = self.dice.below(8) as u8;
+        let distance = within(self.dice.pick(&[1, 51, 201, 1_001, 20_000]));
+        let operator = self.dice.pick(&[distance, distance, whole(BETWEEN)]);
+        match self.dice.below(6) {
+            0..=1 => label(operator, a, concluded),
+            2..=3 => both(a, b, concluded),
+            4 => via(kind, a, concluded),
+            _ => link_rule(operator, self.dice.below(3) as u8, kind),
+        }
+    }
+
+    fn item(&mut self) -> u8 {
+        self.dice.below(self.size.items) as u8
+    }
+
+    fn observed(&mut self) -> Fact {
+        let rock = [SAND, SAND, SHALE, LIME, GAS, OIL, OIL, UNIT];
+        match self.dice.below(20) {
+            0 => has(self.item(), WATER),
+            1 => has(self.item(), SHOE),
+            2..=6 => link(self.item(), self.dice.below(3) as u8, self.item()),
+            _ => has(self.item(), self.dice.pick(&rock)),
+        }
+    }
+
+    /// A mark at the bit, now and then one step deeper, and what else happens on the way.
+    fn drill(&mut self) {
+        if self.dice.percent(self.size.deeper) {
+            self.depth += self.dice.between(1, self.size.step);
+        }
+        let mark = Mark {
+            fact: self.observed(),
+            depth: self.depth as i32,
+        };
+        self.send(Record::Put(mark));
+        self.marks.push(mark);
+        match self.dice.below(24) {
+            0 => self.take_back(),
+            1 => self.mistake(),
+            2..=5 => self.question(),
+            6 => self.ask_spans(),
+            _ => {}
+        }
+    }
+
+    fn take_back(&mut self) {
+        let mark = self.dice.pick(&self.marks);
+        self.send(Record::Take(mark));
+    }
+
+    /// Something that is turned away, most often for what it says.
+    fn mistake(&mut self) {
+        let mark = self.dice.pick(&self.marks);
+        match self.dice.below(7) {
+            0 => self.send(Record::Put(mark)),
+            1 => self.send(put(has(16, SAND), mark.depth)),
+            2 => self.send(put(mark.fact, DEEPEST + mark.depth.abs() + 1)),
+            3 => self.send(take(has(0, PAY), mark.depth)),
+            4 => self.send(label(within(0), SAND, SHALE)),
+            5 => self.stream.extend(framed(13, &[0, PAY])),
+            _ => self.stream.extend(framed(12, &[0, PAY, 0])),
+        }
+    }
+
+    /// Most questions are about what was seen nearby, or what may follow from it.
+    fn question(&mut self) {
+        let near = self.dice.pick(&self.marks);
+        let depth = i64::from(near.depth) + self.dice.pick(&[0, 0, -1, 1, -40, 300]);
+        let derived = self.dice.between(0, HOUSE.into()) as u8;
+        match (near.fact, self.dice.below(8)) {
+            (_, 0) => self.send(query(near.fact, i64::MAX)),
+            (_, 1..=3) => self.send(query(near.fact, depth)),
+            (Fact::Label { item, .. } | Fact::Link { from: item, .. }, _) => {
+                self.send(query(has(item, derived), depth));
+            }
+        }
+    }
+
+    fn ask_spans(&mut self) {
+        let label = self.dice.between(0, i64::from(HOUSE) + 5) as u8;
+        let item = self.item();
+        self.send(spans(item, label));
+    }
+
+    /// What the panel shows at the end of a section; a strict house then looks again without
+    /// the water, in case that was the contradiction.
+    fn report(&mut self) {
+        self.show();
+        if self.size.strict {
+            let marks = std::mem::take(&mut self.marks);
+            let wet = |mark: &&Mark| matches!(mark.fact, Fact::Label { label: WATER, .. });
+            let water = marks.iter().filter(wet);
+            water.for_each(|&mark| self.send(Record::Take(mark)));
+            self.marks = marks;
+            self.show();
+        }
+    }
+
+    fn show(&mut self) {
+        let labels = [CASED, WET, RESERVOIR, PAY, FED, SEALED, HOUSE + 8];
+        let items = self.size.items.min(4) as u8;
+        let asked = (0..items).flat_map(|item| labels.map(|label| spans(item, label)));
+        asked.for_each(|record| self.send(record));
+        (0..8).for_each(|_| self.question());
+    }
+}

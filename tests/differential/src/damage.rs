@@ -1,0 +1,136 @@
+//! Wrong bytes, wrong lengths and wrong blocks.
+
+use crate::source::Source;
+use dice::Dice;
+use model::block::{MARKS_AT, PLACE, RULES_AT, SIZE};
+use model::frame::framed;
+use model::service::{Lent, Memory};
+
+/// More than the least that is enough, so that tails can be watched.
+pub const WHOLE: Lent = Lent {
+    block: 3_200,
+    labels: 3_120,
+    links: 49_500,
+    spans: 256,
+};
+
+fn random_bytes(dice: &mut Dice, count: u64) -> Vec<u8> {
+    (0..count).map(|_| dice.word() as u8).collect()
+}
+
+/// Damages the bytes of one record, or leaves too few of them.
+pub fn damage(dice: &mut Dice, mut bytes: Vec<u8>) -> Vec<u8> {
+    let size = bytes.len() as u64;
+    match dice.below(8) {
+        0 => {
+            let bit = dice.below(size * 8);
+            bytes[(bit / 8) as usize] ^= 1 << (bit % 8);
+        }
+        1 => bytes.truncate(dice.below(size) as usize),
+        2 => bytes[0] = dice.pick(&[0, 1, 2, 3, bytes[0] - 1, bytes[0] + 1, 255]),
+        3 => bytes[1] = dice.pick(&[0, 1, 255]),
+        4 => bytes[2] = dice.pick(&[0, 12, 13, 14, 255]),
+        5 => bytes[3] = dice.pick(&[1, 2, 128, 255]),
+        6 => bytes = framed(u16::from(bytes[2]), &bytes[4..bytes.len().max(5) - 1]),
+        _ => {
+            let count = dice.below(20);
+            bytes = random_bytes(dice, count);
+        }
+    }
+    bytes
+}
+
+/// The record's bytes with whatever may stand behind them.
+pub fn with_rest(dice: &mut Dice, mut bytes: Vec<u8>) -> Vec<u8> {
+    let rest = dice.pick(&[0, 0, 0, 1, 3, 17]);
+    bytes.extend(random_bytes(dice, rest));
+    bytes
+}
+
+/// Lengths that are enough, or now and then one that is short.
+pub fn lengths(source: &mut Source) -> Lent {
+    let short = source.dice.percent(source.plan.short);
+    let dice = &mut source.dice;
+    let mut lent = dice.pick(&[Lent::EXACT, WHOLE]);
+    if !short {
+        return lent;
+    }
+    let exact = Lent::EXACT;
+    let enough = [exact.block, exact.labels, exact.links, exact.spans];
+    let which = dice.below(4) as usize;
+    let length = dice.pick(&[0, 1, enough[which] / 2, enough[which] - 1]);
+    match which {
+        0 => lent.block = length,
+        1 => lent.labels = length,
+        2 => lent.links = length,
+        _ => lent.spans = length,
+    }
+    lent
+}
+
+/// Gives tables, span buffer and the block's tail any content.
+pub fn refill(dice: &mut Dice, memory: &mut Memory) {
+    let style = dice.pick(&[0, u64::MAX, 1]);
+    let mut draw = || match style {
+        1 => dice.word(),
+        fixed => fixed,
+    };
+    memory.labels.fill_with(&mut draw);
+    memory.spans.fill_with(|| draw() as i32);
+    memory.block[SIZE..].fill_with(|| draw() as u8);
+    let words = memory.links.chunks_mut(8);
+    words.for_each(|word| word.copy_from_slice(&draw().to_le_bytes()[..word.len()]));
+}
+
+/// A place in the block where a changed byte is likely to matter.
+fn likely(dice: &mut Dice, block: &[u8]) -> usize {
+    let rules = u64::from(block[0].min(127)) + 1;
+    let marks = u64::from(block[2]) + 1;
+    let at = match dice.below(6) {
+        0 => dice.below(4),
+        1 => dice.below(RULES_AT as u64),
+        2 | 3 => RULES_AT as u64 + dice.below(rules * PLACE as u64),
+        4 => MARKS_AT as u64 + dice.below(marks * PLACE as u64),
+        _ => dice.below(SIZE as u64),
+    };
+    at as usize
+}
+
+/// Copies one place over another, which makes a double among the rules or the marks.
+fn double(dice: &mut Dice, block: &mut [u8]) {
+    let (base, count) = match dice.below(2) {
+        0 => (RULES_AT, u64::from(block[0])),
+        _ => (MARKS_AT, u64::from(block[2])),
+    };
+    let mut place = || base + PLACE * dice.below(count.max(1)) as usize;
+    let (from, to) = (place(), place());
+    block.copy_within(from..from + PLACE, to);
+}
+
+/// Adds a mark behind the last one: a good block, unless a limit is passed.
+fn append(dice: &mut Dice, block: &mut [u8]) {
+    let count = u16::from_le_bytes([block[2], block[3]]);
+    let at = MARKS_AT + PLACE * usize::from(count);
+    let depth = dice.between(-9_000, 9_000) as i32;
+    if at < SIZE {
+        block[at..at + 4].copy_from_slice(&[6, 0, 1, 0]);
+        block[at + 4..at + PLACE].copy_from_slice(&depth.to_le_bytes());
+    }
+    block[2..4].copy_from_slice(&(count + 1).to_le_bytes());
+}
+
+/// Changes the block: a byte, a double, one mark more, or everything.
+pub fn spoil(dice: &mut Dice, block: &mut [u8]) {
+    match dice.below(12) {
+        0 => block.fill_with(|| dice.word() as u8),
+        1 | 2 => double(dice, block),
+        3 => block[..4].copy_from_slice(&[128, 0, 0, 1]),
+        4 | 5 => append(dice, block),
+        _ => {
+            let at = likely(dice, block);
+            let now = block[at];
+            let near = [now.wrapping_add(1), now.wrapping_sub(1), now ^ 64, 0, 255];
+            block[at] = dice.pick(&near);
+        }
+    }
+}

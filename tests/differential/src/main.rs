@@ -1,0 +1,39 @@
+//! Runs random streams of calls through the archive and the model and compares them.
+//! Arguments: seconds to run (default 100) and the first seed (default 1).
+
+mod damage;
+mod panel;
+mod plan;
+mod source;
+mod stream;
+mod tally;
+
+use std::process::ExitCode;
+use std::time::{Duration, Instant};
+use stream::Stream;
+use tally::Tally;
+
+fn argument(place: usize, default: u64) -> u64 {
+    let text = std::env::args().nth(place);
+    text.map_or(default, |text| text.parse().expect("a whole number"))
+}
+
+fn main() -> ExitCode {
+    let (seconds, first_seed) = (argument(1, 100), argument(2, 1));
+    let (start, limit) = (Instant::now(), Duration::from_secs(seconds));
+    let mut tally = Tally::default();
+    let seeds = (first_seed..).take_while(|_| start.elapsed() < limit);
+    for seed in seeds {
+        if let Err(difference) = Stream::new(seed).run(&mut tally) {
+            println!("seed {seed}, {difference}");
+            return ExitCode::FAILURE;
+        }
+    }
+    tally.print();
+    let missing = tally.missing();
+    if !missing.is_empty() && seconds >= 10 {
+        println!("refusals that never came up: {missing:?}");
+        return ExitCode::FAILURE;
+    }
+    ExitCode::SUCCESS
+}

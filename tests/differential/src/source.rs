@@ -1,0 +1,236 @@
+//! Draws names, depths, rules, marks and records by a plan.
+
+use crate::plan::Plan;
+use dice::Dice;
+use model::held::Held;
+use model::terms::*;
+use std::collections::BTreeSet;
+
+pub struct Source {
+    pub dice: Dice,
+    pub plan: Plan,
+    /// Marks meet at few depths, so that rules find their premises together.
+    pool: Vec<i32>,
+}
+
+impl Source {
+    pub fn new(mut dice: Dice, plan: Plan) -> Source {
+        let last = plan.top + plan.width - 1;
+        let mut pool = BTreeSet::new();
+        while (pool.len() as u64) < plan.depths {
+            pool.insert(dice.between(plan.top, last) as i32);
+        }
+        let pool = pool.into_iter().collect();
+        Source { dice, plan, pool }
+    }
+
+    /// One of the edge values now and then, else the usual one.
+    fn or_edge<T: Copy>(&mut self, usual: T, edges: &[T]) -> T {
+        match self.dice.percent(self.plan.edge) {
+            true => self.dice.pick(edges),
+            false => usual,
+        }
+    }
+
+    fn item(&mut self) -> u8 {
+        let usual = self.dice.below(self.plan.items.into()) as u8;
+        self.or_edge(usual, &[0, 15, 16, 255])
+    }
+
+    fn kind(&mut self) -> u8 {
+        let usual = self.dice.below(self.plan.kinds.into()) as u8;
+        self.or_edge(usual, &[0, 7, 8, 255])
+    }
+
+    fn label(&mut self, first: u8) -> u8 {
+        let usual = self.dice.between(first.into(), self.plan.labels.into()) as u8;
+        self.or_edge(usual.min(NEVER - 1), &[0, 1, 62, 63, 64, 255])
+    }
+
+    fn left(&mut self) -> u8 {
+        let first = self.dice.pick(&[EVERY, 1, 1, 1, 1, 1, 1, 1]);
+        self.label(first)
+    }
+
+    fn concluded(&mut self) -> u8 {
+        match self.dice.percent(self.plan.never) {
+            true => NEVER,
+            false => self.label(1),
+        }
+    }
+
+    fn depth(&mut self) -> i32 {
+        let anywhere = self.dice.below(self.plan.width as u64) as i64 + self.plan.top;
+        let usual = match self.dice.percent(self.plan.fresh) {
+            true => anywhere as i32,
+            false => self.dice.pick(&self.pool),
+        };
+        let edges = [
+            SHALLOWEST,
+            SHALLOWEST - 1,
+            DEEPEST,
+            DEEPEST + 1,
+            i32::MIN,
+            i32::MAX,
+            -1,
+        ];
+        self.or_edge(usual, &edges)
+    }
+
+    /// Questions stand on marks, beside them, between them and far from them.
+    fn asked_depth(&mut self) -> i64 {
+        let marked = i64::from(self.dice.pick(&self.pool));
+        let between = self.plan.top - 5 + self.dice.below(self.plan.width as u64 + 10) as i64;
+        let usual = self.dice.pick(&[marked, marked - 1, marked + 1, between]);
+        let low = i64::from(i32::MIN);
+        let edges = [i64::MIN, i64::MAX, low, low - 1, 1 << 31, 1 << 32, 200_001];
+        self.or_edge(usual, &edges)
+    }
+
+    fn operator(&mut self) -> Operator {
+        let code = self.dice.pick(&[1, 1, 1, 1, 2, 3, 4, 5]);
+        let code = self.or_edge(code, &[0, 1, 2, 5, 6, 255]);
+        let short = self.dice.between(1, 20) as u32;
+        let wide = self.dice.between(1, self.plan.width) as u32;
+        let within = self.dice.pick(&[1, short, short, wide]).min(MAX_N);
+        let usual = if code == WITHIN { within } else { 0 };
+        let n = self.or_edge(usual, &[0, 1, MAX_N, MAX_N + 1, u32::MAX]);
+        Operator { code, n }
+    }
+
+    pub fn rule(&mut self) -> Rule {
+        match self.dice.below(8) {
+            0..=2 => Rule::Label {
+                op: self.operator(),
+                a: self.left(),
+                b: self.concluded(),
+            },
+            3 | 4 => Rule::Both {
+                a: self.left(),
+                b: self.left(),
+                c: self.concluded(),
+            },
+            5 => Rule::LinkRule {
+                op: self.operator(),
+                r: self.kind(),
+                s: self.kind(),
+            },
+            _ => Rule::Via {
+                r: self.kind(),
+                a: self.left(),
+                b: self.concluded(),
+            },
+        }
+    }
+
+    fn fact(&mut self, first: u8) -> Fact {
+        match self.dice.percent(60) {
+            true => Fact::Label {
+                item: self.item(),
+                label: self.label(first),
+            },
+            false => Fact::Link {
+                from: self.item(),
+                kind: self.kind(),
+                to: self.item(),
+            },
+        }
+    }
+
+    pub fn mark(&mut self) -> Mark {
+        Mark {
+            fact: self.fact(1),
+            depth: self.depth(),
+        }
+    }
+
+    fn spans(&mut self) -> Record {
+        Record::Spans {
+            item: self.item(),
+            label: self.left(),
+        }
+    }
+
+    /// A mark that is held, if any, with the given chance.
+    fn mark_or_held(&mut self, held: &Held, chance: u64) -> Mark {
+        match !held.marks.is_empty() && self.dice.percent(chance) {
+            true => self.dice.pick(&held.marks),
+            false => self.mark(),
+        }
+    }
+
+    /// A question on a mark's depth or beside it.
+    fn question_at(&mut self, held: &Held) -> Record {
+        let mark = self.mark_or_held(held, 95);
+        let depth = i64::from(mark.depth) + self.dice.pick(&[-1, 0, 0, 1]);
+        Record::Query(mark.fact, depth)
+    }
+
+    /// Half of the questions are about what some rule concludes.
+    fn asked_fact(&mut self, held: &Held) -> Fact {
+        let rule = self.rule_or_held(held, 100);
+        let item = self.item();
+        match (self.dice.below(2), rule) {
+            (1, Rule::Label { b: label, .. } | Rule::Via { b: label, .. }) => {
+                Fact::Label { item, label }
+            }
+            (1, Rule::Both { c: label, .. }) => Fact::Label { item, label },
+            (1, Rule::LinkRule { s: kind, .. }) => Fact::Link {
+                from: item,
+                kind,
+                to: self.item(),
+            },
+            _ => self.fact(EVERY),
+        }
+    }
+
+    fn rule_or_held(&mut self, held: &Held, chance: u64) -> Rule {
+        match !held.rules.is_empty() && self.dice.percent(chance) {
+            true => self.dice.pick(&held.rules),
+            false => self.rule(),
+        }
+    }
+
+    pub fn record(&mut self, held: &Held) -> Record {
+        match self.dice.below(100) {
+            0 => Record::Reset,
+            1..=17 => Record::Rule(self.rule_or_held(held, 8)),
+            18..=44 => Record::Put(self.mark_or_held(held, 8)),
+            45..=58 => Record::Take(self.mark_or_held(held, 80)),
+            59..=76 => Record::Query(self.asked_fact(held), self.asked_depth()),
+            77..=84 => self.question_at(held),
+            _ => self.spans(),
+        }
+    }
+
+    /// A mark at one depth of the pool after the other, so that all of them are taken.
+    fn mark_in_turn(&mut self, turn: usize) -> Mark {
+        Mark {
+            depth: self.pool[turn % self.pool.len()],
+            ..self.mark()
+        }
+    }
+
+    /// Lists to start from, about as long as planned.
+    pub fn held(&mut self) -> Held {
+        let mut held = Held::default();
+        let edge = std::mem::replace(&mut self.plan.edge, 0);
+        let rules: Vec<_> = (0..self.plan.rules * 2).map(|_| self.rule()).collect();
+        let marks: Vec<_> = (0..self.plan.marks * 2)
+            .map(|i| self.mark_in_turn(i as usize))
+            .collect();
+        self.plan.edge = edge;
+        let room = (self.plan.rules as usize, self.plan.marks as usize);
+        let rules = rules.into_iter().map(Record::Rule);
+        for record in rules.chain(marks.into_iter().map(Record::Put)) {
+            let full = match record {
+                Record::Rule(_) => held.rules.len() >= room.0,
+                _ => held.marks.len() >= room.1,
+            };
+            if !full && record.refusal().or(held.refusal(&record)).is_none() {
+                held.accept(&record);
+            }
+        }
+        held
+    }
+}

@@ -1,0 +1,140 @@
+//! One stream of calls, made to the archive and to the model alike.
+
+use crate::damage::{damage, lengths, refill, spoil, with_rest, WHOLE};
+use crate::panel;
+use crate::plan::plan;
+use crate::source::Source;
+use crate::tally::Tally;
+use dice::Dice;
+use model::block::{decode, encode, SIZE};
+use model::frame::bytes;
+use model::service::{self, Lent, Memory};
+use model::terms::Answer;
+
+#[derive(Debug)]
+enum Call {
+    Record(Vec<u8>),
+    Spans(u32, u32),
+}
+
+pub struct Stream {
+    source: Source,
+    model: Memory,
+    real: Memory,
+}
+
+impl Stream {
+    pub fn new(seed: u64) -> Stream {
+        let mut dice = Dice::new(seed);
+        let plan = plan(&mut dice);
+        let mut source = Source::new(dice, plan);
+        let mut model = Memory::zeros(WHOLE);
+        model.block[..SIZE].copy_from_slice(&encode(&source.held()));
+        refill(&mut source.dice, &mut model);
+        let real = model.clone();
+        Stream {
+            source,
+            model,
+            real,
+        }
+    }
+
+    /// Makes all calls; the text of the first difference, if there is one.
+    pub fn run(mut self, tally: &mut Tally) -> Result<(), String> {
+        tally.streams += 1;
+        (0..self.source.plan.calls).try_for_each(|number| self.step(number, tally))
+    }
+
+    /// One call, now and then on a spoiled block that is put back afterwards.
+    fn step(&mut self, number: u64, tally: &mut Tally) -> Result<(), String> {
+        if self.source.dice.percent(6) {
+            refill(&mut self.source.dice, &mut self.model);
+            self.real.clone_from(&self.model);
+        }
+        let call = self.call();
+        let kept = self.spoiled();
+        let lent = lengths(&mut self.source);
+        let before = self.model.block.clone();
+        let answer = self.compare(&call, &lent).map_err(|difference| {
+            format!("call {number}: {difference}\n{lent:?}\n{call:x?}\nblock before: {before:x?}")
+        })?;
+        tally.count(answer);
+        if let Some(block) = kept {
+            self.model.block.clone_from(&block);
+            self.real.block.clone_from(&block);
+        }
+        Ok(())
+    }
+
+    /// Spoils both blocks by the plan's chance and gives back what they held.
+    fn spoiled(&mut self) -> Option<Vec<u8>> {
+        if !self.source.dice.percent(self.source.plan.spoil) {
+            return None;
+        }
+        let kept = self.model.block.clone();
+        spoil(&mut self.source.dice, &mut self.model.block[..SIZE]);
+        self.real.block.clone_from(&self.model.block);
+        Some(kept)
+    }
+
+    fn call(&mut self) -> Call {
+        let dice = &mut self.source.dice;
+        if dice.percent(8) {
+            let item = dice.pick(&[0, 0, 1, 1, 2, 3, 15, 16, 256, u32::MAX]);
+            let label = dice.pick(&[0, 1, 1, 2, 3, 4, 62, 63, 64, 256, u32::MAX]);
+            return Call::Spans(item, label);
+        }
+        let held = decode(&self.model.block).unwrap_or_default();
+        let input = bytes(&self.source.record(&held));
+        let dice = &mut self.source.dice;
+        let damaged = dice.percent(self.source.plan.damage);
+        Call::Record(match dice.below(50) {
+            0 => Vec::new(),
+            _ if damaged => damage(dice, input),
+            _ => with_rest(dice, input),
+        })
+    }
+
+    /// Makes the call on both sides and compares answer, bytes used and all memory.
+    fn compare(&mut self, call: &Call, lent: &Lent) -> Result<Answer, String> {
+        let (expected, used, returned) = match call {
+            Call::Record(input) => {
+                let (answer, used) = service::record(&mut self.model, lent, input);
+                (answer, used, panel::record(&mut self.real, lent, input))
+            }
+            Call::Spans(item, label) => {
+                let answer = service::spans_of(&mut self.model, lent, *item, *label);
+                let returned = panel::spans(&mut self.real, lent, *item, *label);
+                (answer, 0, (returned, 0))
+            }
+        };
+        let (number, value) = expected.numbers();
+        if returned != (number * 65_536 + value, used) {
+            let (answer, got) = (returned.0 / 65_536, returned.0 % 65_536);
+            let wanted = format!("answer {number} value {value} used {used}");
+            return Err(format!(
+                "{wanted} expected, answer {answer} value {got} used {} given",
+                returned.1
+            ));
+        }
+        differing(&self.model, &self.real).map_or(Ok(expected), Err)
+    }
+}
+
+fn first<T: PartialEq + std::fmt::Debug>(name: &str, model: &[T], real: &[T]) -> Option<String> {
+    if model == real {
+        return None;
+    }
+    let at = (0..model.len()).find(|&i| model[i] != real[i])?;
+    let (wanted, given) = (&model[at], &real[at]);
+    Some(format!(
+        "{name}[{at}]: {wanted:?} expected, {given:?} given"
+    ))
+}
+
+fn differing(model: &Memory, real: &Memory) -> Option<String> {
+    first("block", &model.block, &real.block)
+        .or_else(|| first("labels", &model.labels, &real.labels))
+        .or_else(|| first("links", &model.links, &real.links))
+        .or_else(|| first("spans", &model.spans, &real.spans))
+}

@@ -1,0 +1,169 @@
+//! Records as bytes: taking the first one off the input, reading its body, and writing one.
+
+use crate::terms::{Fact, Mark, Operator, Record, Rule};
+
+pub struct Frame<'a> {
+    pub kind: u16,
+    pub body: &'a [u8],
+    pub used: usize,
+}
+
+/// A refused frame: its number and the bytes used.
+pub type Broken = (u32, usize);
+
+/// The length that a known kind asks for.
+fn length_of(kind: u16) -> Option<usize> {
+    let length = match kind {
+        1 => 2,
+        2 | 4 => 9,
+        3 | 5 => 5,
+        6 | 8 => 8,
+        7 | 9 => 9,
+        10 => 12,
+        11 => 13,
+        12 => 4,
+        _ => return None,
+    };
+    Some(length)
+}
+
+/// The first record of an input that is not empty: refusals 3, 4 and 5.
+pub fn split(input: &[u8]) -> Result<Frame<'_>, Broken> {
+    let all = input.len();
+    if all < 4 {
+        return Err((3, all));
+    }
+    let length = usize::from(u16::from_le_bytes([input[0], input[1]]));
+    if length < 2 || length > all - 2 {
+        return Err((3, all));
+    }
+    let kind = u16::from_le_bytes([input[2], input[3]]);
+    let used = length + 2;
+    match length_of(kind) {
+        None => Err((4, used)),
+        Some(asked) if asked != length => Err((5, used)),
+        Some(_) => Ok(Frame {
+            kind,
+            body: &input[4..used],
+            used,
+        }),
+    }
+}
+
+fn four(body: &[u8], at: usize) -> [u8; 4] {
+    body[at..at + 4].try_into().expect("four bytes")
+}
+
+fn eight(body: &[u8], at: usize) -> i64 {
+    i64::from_le_bytes(body[at..at + 8].try_into().expect("eight bytes"))
+}
+
+fn label_fact(body: &[u8]) -> Fact {
+    Fact::Label {
+        item: body[0],
+        label: body[1],
+    }
+}
+
+fn link_fact(body: &[u8]) -> Fact {
+    Fact::Link {
+        from: body[0],
+        kind: body[1],
+        to: body[2],
+    }
+}
+
+fn label_mark(body: &[u8]) -> Mark {
+    Mark {
+        fact: label_fact(body),
+        depth: i32::from_le_bytes(four(body, 2)),
+    }
+}
+
+fn link_mark(body: &[u8]) -> Mark {
+    Mark {
+        fact: link_fact(body),
+        depth: i32::from_le_bytes(four(body, 3)),
+    }
+}
+
+fn rule(kind: u16, body: &[u8]) -> Rule {
+    let (x, y, z) = (body[0], body[1], body[2]);
+    let operator = || Operator {
+        code: x,
+        n: u32::from_le_bytes(four(body, 1)),
+    };
+    match kind {
+        2 => Rule::Label {
+            op: operator(),
+            a: body[5],
+            b: body[6],
+        },
+        3 => Rule::Both { a: x, b: y, c: z },
+        4 => Rule::LinkRule {
+            op: operator(),
+            r: body[5],
+            s: body[6],
+        },
+        _ => Rule::Via { r: x, a: y, b: z },
+    }
+}
+
+/// The fields of a frame that `split` gave, in range or not.
+pub fn read(frame: &Frame) -> Record {
+    let body = frame.body;
+    match frame.kind {
+        1 => Record::Reset,
+        2..=5 => Record::Rule(rule(frame.kind, body)),
+        6 => Record::Put(label_mark(body)),
+        7 => Record::Put(link_mark(body)),
+        8 => Record::Take(label_mark(body)),
+        9 => Record::Take(link_mark(body)),
+        10 => Record::Query(label_fact(body), eight(body, 2)),
+        11 => Record::Query(link_fact(body), eight(body, 3)),
+        _ => Record::Spans {
+            item: body[0],
+            label: body[1],
+        },
+    }
+}
+
+/// A frame of any kind around any body.
+pub fn framed(kind: u16, body: &[u8]) -> Vec<u8> {
+    let length = (body.len() + 2) as u16;
+    [&length.to_le_bytes(), &kind.to_le_bytes(), body].concat()
+}
+
+fn operator_body(op: Operator, from: u8, to: u8) -> Vec<u8> {
+    [&[op.code][..], &op.n.to_le_bytes(), &[from, to]].concat()
+}
+
+fn rule_bytes(rule: &Rule) -> Vec<u8> {
+    match *rule {
+        Rule::Label { op, a, b } => framed(2, &operator_body(op, a, b)),
+        Rule::Both { a, b, c } => framed(3, &[a, b, c]),
+        Rule::LinkRule { op, r, s } => framed(4, &operator_body(op, r, s)),
+        Rule::Via { r, a, b } => framed(5, &[r, a, b]),
+    }
+}
+
+/// A fact and its depth's bytes; a link's kind is one more than a label's.
+fn fact_bytes(label_kind: u16, fact: Fact, depth: &[u8]) -> Vec<u8> {
+    match fact {
+        Fact::Label { item, label } => framed(label_kind, &[&[item, label], depth].concat()),
+        Fact::Link { from, kind, to } => {
+            framed(label_kind + 1, &[&[from, kind, to], depth].concat())
+        }
+    }
+}
+
+pub fn bytes(record: &Record) -> Vec<u8> {
+    match record {
+        Record::Reset => framed(1, &[]),
+        Record::Rule(rule) => rule_bytes(rule),
+        Record::Put(mark) => fact_bytes(6, mark.fact, &mark.depth.to_le_bytes()),
+        Record::Take(mark) => fact_bytes(8, mark.fact, &mark.depth.to_le_bytes()),
+        Record::Query(fact, depth) => fact_bytes(10, *fact, &depth.to_le_bytes()),
+        Record::Spans { item, label } => framed(12, &[*item, *label]),
+    }
+}

@@ -1,0 +1,64 @@
+//! The held rules and marks, and refusals 9 to 12.
+
+use crate::terms::{Mark, Record, Rule, MAX_DEPTHS, MAX_MARKS, MAX_RULES};
+use std::collections::{BTreeSet, HashSet};
+
+#[derive(Clone, Debug, Default, PartialEq, Eq)]
+pub struct Held {
+    pub rules: Vec<Rule>,
+    pub marks: Vec<Mark>,
+}
+
+impl Held {
+    pub fn depths(&self) -> BTreeSet<i32> {
+        self.marks.iter().map(|mark| mark.depth).collect()
+    }
+
+    /// The lowest of refusals 9 to 12 that applies.
+    pub fn refusal(&self, record: &Record) -> Option<u32> {
+        match record {
+            Record::Rule(rule) if self.rules.contains(rule) => Some(9),
+            Record::Rule(_) => (self.rules.len() >= MAX_RULES).then_some(11),
+            Record::Put(mark) => self.put_refusal(mark),
+            Record::Take(mark) => (!self.marks.contains(mark)).then_some(10),
+            _ => None,
+        }
+    }
+
+    fn put_refusal(&self, mark: &Mark) -> Option<u32> {
+        if self.marks.contains(mark) {
+            return Some(9);
+        }
+        if self.marks.len() >= MAX_MARKS {
+            return Some(11);
+        }
+        let depths = self.depths();
+        (depths.len() >= MAX_DEPTHS && !depths.contains(&mark.depth)).then_some(12)
+    }
+
+    /// Carries out an accepted record; questions change nothing.
+    pub fn accept(&mut self, record: &Record) {
+        match record {
+            Record::Reset => *self = Held::default(),
+            Record::Rule(rule) => self.rules.push(*rule),
+            Record::Put(mark) => self.marks.push(*mark),
+            Record::Take(mark) => self.marks.retain(|held| held != mark),
+            Record::Query(..) | Record::Spans { .. } => {}
+        }
+    }
+
+    /// Whether records can lead to these lists: ranges, limits and no double.
+    pub fn reachable(&self) -> bool {
+        let rules: HashSet<_> = self.rules.iter().collect();
+        let marks: HashSet<_> = self.marks.iter().collect();
+        let mut puts = self.marks.iter().map(|&mark| Record::Put(mark));
+        let mut learned = self.rules.iter().map(|&rule| Record::Rule(rule));
+        rules.len() == self.rules.len()
+            && marks.len() == self.marks.len()
+            && rules.len() <= MAX_RULES
+            && marks.len() <= MAX_MARKS
+            && self.depths().len() <= MAX_DEPTHS
+            && puts.all(|record| record.refusal().is_none())
+            && learned.all(|record| record.refusal().is_none())
+    }
+}

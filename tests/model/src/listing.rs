@@ -1,0 +1,44 @@
+//! What the program prints for an input.
+
+use crate::service::{record, Lent, Memory};
+use crate::terms::Answer;
+
+pub const MAX_INPUT: usize = 65_536;
+
+pub fn listing(input: &[u8]) -> String {
+    if input.len() > MAX_INPUT {
+        return "input too long\n".to_string();
+    }
+    let mut memory = Memory::zeros(Lent::EXACT);
+    let (mut lines, mut at) = (String::new(), 0);
+    for number in 1.. {
+        let (answer, used) = record(&mut memory, &Lent::EXACT, &input[at..]);
+        at += used as usize;
+        if answer == Answer::End {
+            break;
+        }
+        lines += &format!("{number} {answer}{}\n", span_text(&memory, answer));
+        // A broken frame uses all that is left, so the next call would be the end.
+        if answer == Answer::Refused(3) {
+            break;
+        }
+    }
+    lines
+}
+
+fn span_text(memory: &Memory, answer: Answer) -> String {
+    let Answer::Spans(count) = answer else {
+        return String::new();
+    };
+    let pairs = memory.spans.chunks(2).take(count as usize);
+    pairs
+        .map(|pair| format!(" {}:{}", end(pair[0]), end(pair[1])))
+        .collect()
+}
+
+fn end(depth: i32) -> String {
+    match depth {
+        i32::MIN | i32::MAX => "*".to_string(),
+        finite => finite.to_string(),
+    }
+}

@@ -1,0 +1,52 @@
+//! Short names for writing records down in tests.
+
+use crate::terms::*;
+
+pub fn within(n: u32) -> Operator {
+    Operator { code: WITHIN, n }
+}
+
+/// One of the operators without a distance.
+pub fn whole(code: u8) -> Operator {
+    Operator { code, n: 0 }
+}
+
+pub fn label(op: Operator, a: u8, b: u8) -> Record {
+    Record::Rule(Rule::Label { op, a, b })
+}
+
+pub fn both(a: u8, b: u8, c: u8) -> Record {
+    Record::Rule(Rule::Both { a, b, c })
+}
+
+pub fn link_rule(op: Operator, r: u8, s: u8) -> Record {
+    Record::Rule(Rule::LinkRule { op, r, s })
+}
+
+pub fn via(r: u8, a: u8, b: u8) -> Record {
+    Record::Rule(Rule::Via { r, a, b })
+}
+
+pub fn has(item: u8, label: u8) -> Fact {
+    Fact::Label { item, label }
+}
+
+pub fn link(from: u8, kind: u8, to: u8) -> Fact {
+    Fact::Link { from, kind, to }
+}
+
+pub fn put(fact: Fact, depth: i32) -> Record {
+    Record::Put(Mark { fact, depth })
+}
+
+pub fn take(fact: Fact, depth: i32) -> Record {
+    Record::Take(Mark { fact, depth })
+}
+
+pub fn query(fact: Fact, depth: i64) -> Record {
+    Record::Query(fact, depth)
+}
+
+pub fn spans(item: u8, label: u8) -> Record {
+    Record::Spans { item, label }
+}

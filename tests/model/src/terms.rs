@@ -1,0 +1,163 @@
+//! Names, limits, operators, rules, marks, records and answers of the specification.
+//! The types hold any field value; `Record::refusal` says which of them are in range.
+
+pub const ITEMS: u8 = 16;
+pub const LABELS: u8 = 64;
+pub const KINDS: u8 = 8;
+pub const EVERY: u8 = 0;
+pub const NEVER: u8 = 63;
+pub const MAX_RULES: usize = 128;
+pub const MAX_MARKS: usize = 256;
+pub const MAX_DEPTHS: usize = 96;
+pub const MAX_N: u32 = 300_000;
+pub const SHALLOWEST: i32 = -10_000;
+pub const DEEPEST: i32 = 200_000;
+
+/// All ordered pairs of items.
+pub fn pairs() -> impl Iterator<Item = (u8, u8)> {
+    (0..ITEMS).flat_map(|from| (0..ITEMS).map(move |to| (from, to)))
+}
+
+pub const WITHIN: u8 = 1;
+pub const BETWEEN: u8 = 2;
+pub const ABOVE: u8 = 3;
+pub const BELOW: u8 = 4;
+pub const ANYWHERE: u8 = 5;
+
+#[derive(Clone, Copy, Debug, PartialEq, Eq, Hash)]
+pub struct Operator {
+    pub code: u8,
+    pub n: u32,
+}
+
+impl Operator {
+    fn in_range(&self) -> bool {
+        match self.code {
+            WITHIN => (1..=MAX_N).contains(&self.n),
+            BETWEEN..=ANYWHERE => self.n == 0,
+            _ => false,
+        }
+    }
+}
+
+#[derive(Clone, Copy, Debug, PartialEq, Eq, Hash)]
+pub enum Rule {
+    Label { op: Operator, a: u8, b: u8 },
+    Both { a: u8, b: u8, c: u8 },
+    LinkRule { op: Operator, r: u8, s: u8 },
+    Via { r: u8, a: u8, b: u8 },
+}
+
+/// What a mark or a question speaks of, without its depth.
+#[derive(Clone, Copy, Debug, PartialEq, Eq, Hash)]
+pub enum Fact {
+    Label { item: u8, label: u8 },
+    Link { from: u8, kind: u8, to: u8 },
+}
+
+#[derive(Clone, Copy, Debug, PartialEq, Eq, Hash)]
+pub struct Mark {
+    pub fact: Fact,
+    pub depth: i32,
+}
+
+#[derive(Clone, Copy, Debug, PartialEq, Eq)]
+pub enum Record {
+    Reset,
+    Rule(Rule),
+    Put(Mark),
+    Take(Mark),
+    Query(Fact, i64),
+    Spans { item: u8, label: u8 },
+}
+
+impl Record {
+    /// The lowest of refusals 6, 7 and 8 that applies.
+    pub fn refusal(&self) -> Option<u32> {
+        let cases = [(6, self.names()), (7, self.operator()), (8, self.depth())];
+        let broken = cases.into_iter().find(|&(_, in_range)| !in_range);
+        broken.map(|(number, _)| number)
+    }
+
+    fn names(&self) -> bool {
+        match *self {
+            Record::Reset => true,
+            Record::Rule(rule) => rule_names(rule),
+            Record::Put(mark) | Record::Take(mark) => fact_names(mark.fact, 1, NEVER - 1),
+            Record::Query(fact, _) => fact_names(fact, EVERY, NEVER),
+            Record::Spans { item, label } => item < ITEMS && label < LABELS,
+        }
+    }
+
+    fn operator(&self) -> bool {
+        match self {
+            Record::Rule(Rule::Label { op, .. } | Rule::LinkRule { op, .. }) => op.in_range(),
+            _ => true,
+        }
+    }
+
+    fn depth(&self) -> bool {
+        match self {
+            Record::Put(mark) | Record::Take(mark) => (SHALLOWEST..=DEEPEST).contains(&mark.depth),
+            _ => true,
+        }
+    }
+}
+
+fn rule_names(rule: Rule) -> bool {
+    let left = |label: u8| label < NEVER;
+    let concluded = |label: u8| label > EVERY && label <= NEVER;
+    match rule {
+        Rule::Label { a, b, .. } => left(a) && concluded(b),
+        Rule::Both { a, b, c } => left(a) && left(b) && concluded(c),
+        Rule::LinkRule { r, s, .. } => r < KINDS && s < KINDS,
+        Rule::Via { r, a, b } => r < KINDS && left(a) && concluded(b),
+    }
+}
+
+fn fact_names(fact: Fact, first: u8, last: u8) -> bool {
+    match fact {
+        Fact::Label { item, label } => item < ITEMS && label >= first && label <= last,
+        Fact::Link { from, kind, to } => from < ITEMS && kind < KINDS && to < ITEMS,
+    }
+}
+
+#[derive(Clone, Copy, Debug, PartialEq, Eq)]
+pub enum Answer {
+    Done,
+    Yes,
+    No,
+    Contradiction(u32),
+    Spans(u32),
+    End,
+    Refused(u32),
+}
+
+impl Answer {
+    /// The number of the answer and its value, as the exported calls return them.
+    pub fn numbers(self) -> (u32, u32) {
+        match self {
+            Answer::Done => (0, 0),
+            Answer::Yes => (1, 0),
+            Answer::No => (2, 0),
+            Answer::Contradiction(item) => (3, item),
+            Answer::Spans(count) => (4, count),
+            Answer::End => (5, 0),
+            Answer::Refused(number) => (6, number),
+        }
+    }
+}
+
+impl std::fmt::Display for Answer {
+    fn fmt(&self, f: &mut std::fmt::Formatter<'_>) -> std::fmt::Result {
+        match self {
+            Answer::Done => write!(f, "done"),
+            Answer::Yes => write!(f, "yes"),
+            Answer::No => write!(f, "no"),
+            Answer::Contradiction(item) => write!(f, "contradiction {item}"),
+            Answer::Spans(count) => write!(f, "spans {count}"),
+            Answer::End => write!(f, "end"),
+            Answer::Refused(number) => write!(f, "refused {number}"),
+        }
+    }
+}

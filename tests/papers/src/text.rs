@@ -1,0 +1,124 @@
+//! Streams as text: one record on a line, ` => ` and the answer that it must get.
+//! `name WORD NUMBER` gives an item, label or link kind a name; `#` starts a comment.
+
+use model::short::*;
+use model::terms::*;
+use std::collections::HashMap;
+
+pub struct Example {
+    pub records: Vec<Record>,
+    pub listing: String,
+}
+
+struct Line<'a> {
+    names: &'a HashMap<String, i64>,
+    words: std::str::SplitWhitespace<'a>,
+}
+
+impl Line<'_> {
+    fn word(&mut self) -> Result<&str, String> {
+        self.words.next().ok_or("a word is missing".to_string())
+    }
+
+    /// A number or a name that stands for one.
+    fn number(&mut self) -> Result<i64, String> {
+        let word = self.word()?.to_string();
+        let named = self.names.get(&word).copied();
+        named
+            .or_else(|| word.parse().ok())
+            .ok_or(format!("{word} is neither a number nor a name"))
+    }
+
+    fn small(&mut self) -> Result<u8, String> {
+        let number = self.number()?;
+        u8::try_from(number).map_err(|_| format!("{number} does not fit a byte"))
+    }
+
+    fn depth(&mut self) -> Result<i32, String> {
+        let number = self.number()?;
+        i32::try_from(number).map_err(|_| format!("{number} is no mark's depth"))
+    }
+
+    fn operator(&mut self) -> Result<Operator, String> {
+        let code = match self.word()? {
+            "within" => {
+                let n = self.number()?;
+                return Ok(within(n as u32));
+            }
+            "between" => BETWEEN,
+            "above" => ABOVE,
+            "below" => BELOW,
+            "anywhere" => ANYWHERE,
+            other => return Err(format!("{other} is no operator")),
+        };
+        Ok(whole(code))
+    }
+
+    fn label(&mut self) -> Result<Fact, String> {
+        Ok(has(self.small()?, self.small()?))
+    }
+
+    fn link(&mut self) -> Result<Fact, String> {
+        Ok(link(self.small()?, self.small()?, self.small()?))
+    }
+
+    fn record(&mut self) -> Result<Record, String> {
+        let kind = self.word()?.to_string();
+        Ok(match kind.as_str() {
+            "reset" => Record::Reset,
+            "label" => label(self.operator()?, self.small()?, self.small()?),
+            "both" => both(self.small()?, self.small()?, self.small()?),
+            "linkrule" => link_rule(self.operator()?, self.small()?, self.small()?),
+            "via" => via(self.small()?, self.small()?, self.small()?),
+            "put" => put(self.label()?, self.depth()?),
+            "putlink" => put(self.link()?, self.depth()?),
+            "take" => take(self.label()?, self.depth()?),
+            "takelink" => take(self.link()?, self.depth()?),
+            "query" => query(self.label()?, self.number()?),
+            "querylink" => query(self.link()?, self.number()?),
+            "spans" => spans(self.small()?, self.small()?),
+            other => return Err(format!("{other} is no record")),
+        })
+    }
+}
+
+/// Reads one line into the example or the names.
+fn read_line(
+    line: &str,
+    names: &mut HashMap<String, i64>,
+    example: &mut Example,
+) -> Result<(), String> {
+    let (said, answer) = line.split_once(" => ").unwrap_or((line, ""));
+    let words = said.split_whitespace();
+    if let ["name", word, number] = words.clone().collect::<Vec<_>>()[..] {
+        let number = number.parse().map_err(|_| format!("{number}: no number"))?;
+        names.insert(word.to_string(), number);
+        return Ok(());
+    }
+    let mut line = Line { names, words };
+    let record = line.record()?;
+    if answer.is_empty() || line.words.next().is_some() {
+        return Err(format!("{said}: no answer, or too many words"));
+    }
+    example.records.push(record);
+    example.listing += &format!("{} {}\n", example.records.len(), answer.trim());
+    Ok(())
+}
+
+pub fn read(text: &str) -> Result<Example, String> {
+    let known = [("EVERY", EVERY), ("NEVER", NEVER)];
+    let known = known.map(|(word, label)| (word.to_string(), i64::from(label)));
+    let mut names = HashMap::from(known);
+    let mut example = Example {
+        records: Vec::new(),
+        listing: String::new(),
+    };
+    for (place, line) in text.lines().enumerate() {
+        let said = line.split('#').next().unwrap_or_default().trim();
+        if !said.is_empty() {
+            read_line(said, &mut names, &mut example)
+                .map_err(|error| format!("line {}: {error}", place + 1))?;
+        }
+    }
+    Ok(example)
+}
