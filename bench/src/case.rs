@@ -1,9 +1,12 @@
 //! A section held in a state block, and the operations that are measured on it.
 
 use crate::naive::Tables;
-use crate::panel::{self, Panel, BLOCK_LEN};
-use crate::records;
-use crate::section::Section;
+use model::block::SIZE;
+use model::frame::bytes;
+use model::held::Held;
+use model::service::{Lent, Memory};
+use model::terms::{Answer, Record};
+use panel::Numbers;
 
 /// What is measured.
 #[derive(Clone, Copy, PartialEq)]
@@ -47,20 +50,29 @@ impl Operation {
 /// The memory that all operations share.
 pub struct Bench {
     pub naive: Tables,
-    pub panel: Panel,
+    pub memory: Memory,
 }
 
 impl Bench {
     pub fn new() -> Bench {
         Bench {
             naive: Tables::new(),
-            panel: Panel::new(),
+            memory: Memory::zeros(Lent::EXACT),
         }
+    }
+
+    fn record(&mut self, input: &[u8]) -> Numbers {
+        panel::record(&mut self.memory, &Lent::EXACT, input).0
+    }
+
+    /// Handles one record that has to be done.
+    fn done(&mut self, input: &[u8]) {
+        assert_eq!(self.record(input), Answer::Done.numbers(), "{input:?}");
     }
 }
 
 pub struct Case {
-    pub section: Section,
+    pub section: Held,
     full: Vec<u8>,
     short: Vec<u8>,
     put: Vec<u8>,
@@ -69,11 +81,11 @@ pub struct Case {
 
 impl Case {
     /// A section whose block is `full`, and `short` without its first mark.
-    fn with_blocks(section: Section, full: Vec<u8>, short: Vec<u8>) -> Case {
+    fn with_blocks(section: Held, full: Vec<u8>, short: Vec<u8>) -> Case {
         let mark = section.marks[0];
         Case {
-            put: records::put(&mark),
-            question: records::query(mark.atom, i64::from(mark.depth)),
+            put: bytes(&Record::Put(mark)),
+            question: bytes(&Record::Query(mark.fact, mark.depth.into())),
             section,
             full,
             short,
@@ -81,14 +93,13 @@ impl Case {
     }
 
     /// The section put record by record into a block.
-    pub fn load(section: Section, panel: &mut Panel) -> Case {
-        panel.expect(&records::reset(), panel::DONE);
-        for input in stream(&section) {
-            panel.expect(&input, panel::DONE);
+    pub fn load(section: Held, bench: &mut Bench) -> Case {
+        for record in stream(&section) {
+            bench.done(&bytes(&record));
         }
-        let full = panel.block.clone();
-        panel.expect(&records::take(&section.marks[0]), panel::DONE);
-        let short = panel.block.clone();
+        let full = bench.memory.block.clone();
+        bench.done(&bytes(&Record::Take(section.marks[0])));
+        let short = bench.memory.block.clone();
         Case::with_blocks(section, full, short)
     }
 
@@ -97,8 +108,8 @@ impl Case {
         [&self.full[..], &self.short].concat()
     }
 
-    pub fn from_bytes(section: Section, bytes: &[u8]) -> Case {
-        let (full, short) = bytes.split_at(BLOCK_LEN);
+    pub fn from_bytes(section: Held, bytes: &[u8]) -> Case {
+        let (full, short) = bytes.split_at(SIZE);
         Case::with_blocks(section, full.to_vec(), short.to_vec())
     }
 
@@ -108,29 +119,30 @@ impl Case {
             Operation::Put | Operation::PutQuestion => &self.short,
             _ => &self.full,
         };
-        bench.panel.block.copy_from_slice(block);
+        bench.memory.block.copy_from_slice(block);
     }
 
-    /// Does the operation and gives the last answer's number.
-    pub fn run(&self, operation: Operation, bench: &mut Bench) -> u32 {
+    /// Does the operation and gives the last answer.
+    pub fn run(&self, operation: Operation, bench: &mut Bench) -> Numbers {
         match operation {
             Operation::Naive => {
                 bench.naive.derive(&self.section);
-                panel::DONE
+                Answer::Done.numbers()
             }
-            Operation::Question => bench.panel.record(&self.question),
-            Operation::Put => bench.panel.record(&self.put),
+            Operation::Question => bench.record(&self.question),
+            Operation::Put => bench.record(&self.put),
             Operation::PutQuestion => {
-                bench.panel.expect(&self.put, panel::DONE);
-                bench.panel.record(&self.question)
+                bench.done(&self.put);
+                bench.record(&self.question)
             }
-            Operation::Load => bench.panel.record(&[]),
+            Operation::Load => bench.record(&[]),
         }
     }
 }
 
-/// The records that fill a block with the section.
-fn stream(section: &Section) -> impl Iterator<Item = Vec<u8>> + '_ {
-    let rules = section.rules.iter().map(records::rule);
-    rules.chain(section.marks.iter().map(records::put))
+/// The records that bring any block to the section.
+fn stream(section: &Held) -> impl Iterator<Item = Record> + '_ {
+    let rules = section.rules.iter().map(|&rule| Record::Rule(rule));
+    let marks = section.marks.iter().map(|&mark| Record::Put(mark));
+    [Record::Reset].into_iter().chain(rules).chain(marks)
 }

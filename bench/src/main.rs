@@ -7,9 +7,6 @@
 mod case;
 mod clock;
 mod naive;
-mod panel;
-mod random;
-mod records;
 mod report;
 mod section;
 
@@ -18,16 +15,18 @@ use std::fs;
 use std::process::ExitCode;
 
 use case::{Bench, Case, Operation};
-use section::{Section, SECTIONS};
+use model::block::SIZE;
+use model::held::Held;
+use section::SECTIONS;
 
-fn sections() -> impl Iterator<Item = Section> {
-    (1..=SECTIONS).map(Section::generate)
+fn sections() -> impl Iterator<Item = Held> {
+    (1..=SECTIONS).map(section::generate)
 }
 
 fn loaded() -> Vec<Case> {
-    let mut panel = panel::Panel::new();
+    let mut bench = Bench::new();
     sections()
-        .map(|section| Case::load(section, &mut panel))
+        .map(|section| Case::load(section, &mut bench))
         .collect()
 }
 
@@ -38,7 +37,7 @@ fn write_blocks(file: &str) {
 
 fn read_blocks(file: &str, count: usize) -> Vec<Case> {
     let bytes = fs::read(file).expect("the file of blocks");
-    let blocks = bytes.chunks_exact(2 * panel::BLOCK_LEN);
+    let blocks = bytes.chunks_exact(2 * SIZE);
     let cases = sections().zip(blocks).take(count);
     cases
         .map(|(section, blocks)| Case::from_bytes(section, blocks))

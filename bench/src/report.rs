@@ -6,8 +6,11 @@ use std::time::Duration;
 use crate::case::{Bench, Case, Operation};
 use crate::clock;
 use crate::naive::Tables;
-use crate::panel;
-use crate::section::{Rule, Section};
+use model::held::Held;
+use model::service::Memory;
+use model::tables::PIECES;
+use model::terms::{Answer, Rule, NEVER};
+use panel::Numbers;
 
 /// Each time is the best of this many.
 const ROUNDS: usize = 8;
@@ -19,7 +22,7 @@ struct Measured {
     contradiction: bool,
 }
 
-fn timed(case: &Case, operation: Operation, bench: &mut Bench) -> (Duration, u32) {
+fn timed(case: &Case, operation: Operation, bench: &mut Bench) -> (Duration, Numbers) {
     case.prepare(operation, bench);
     let start = clock::now();
     let answer = case.run(operation, bench);
@@ -27,17 +30,22 @@ fn timed(case: &Case, operation: Operation, bench: &mut Bench) -> (Duration, u32
 }
 
 /// What the operation has to answer: the question is about a mark, which is yes unless NEVER was derived.
-fn expected(operation: Operation, contradiction: bool) -> u32 {
+fn expected(operation: Operation, tables: &Tables) -> Answer {
     match operation {
-        Operation::Naive | Operation::Put => panel::DONE,
-        Operation::Load => panel::END,
-        _ if contradiction => panel::CONTRADICTION,
-        _ => panel::YES,
+        Operation::Naive | Operation::Put => Answer::Done,
+        Operation::Load => Answer::End,
+        _ => contradiction(tables).unwrap_or(Answer::Yes),
     }
 }
 
-fn has_never(tables: &Tables) -> bool {
-    tables.labels.iter().any(|entry| entry >> 63 == 1)
+fn contradiction(tables: &Tables) -> Option<Answer> {
+    let mut entries = tables.labels.iter();
+    let place = entries.position(|entry| entry >> NEVER & 1 == 1);
+    place.map(|place| Answer::Contradiction((place / PIECES) as u32))
+}
+
+fn same_tables(naive: &Tables, memory: &Memory) -> bool {
+    naive.labels == memory.labels && naive.links == memory.links
 }
 
 /// All operations once, in the order of these places.
@@ -45,11 +53,11 @@ fn round(case: &Case, bench: &mut Bench, order: &[usize], best: &mut [Duration])
     for &place in order {
         let operation = Operation::ALL[place];
         let (time, answer) = timed(case, operation, bench);
-        let contradiction = has_never(&bench.naive);
-        assert_eq!(answer, expected(operation, contradiction), "answer");
+        assert_eq!(answer, expected(operation, &bench.naive).numbers());
         best[place] = time.min(best[place]);
     }
-    assert!(bench.naive == bench.panel.tables, "the tables differ");
+    let same = same_tables(&bench.naive, &bench.memory);
+    assert!(same, "the tables differ");
 }
 
 fn measure(case: &Case, bench: &mut Bench) -> Measured {
@@ -63,14 +71,14 @@ fn measure(case: &Case, bench: &mut Bench) -> Measured {
     Measured {
         best,
         passes: bench.naive.derive(&case.section),
-        contradiction: has_never(&bench.naive),
+        contradiction: contradiction(&bench.naive).is_some(),
     }
 }
 
 /// The section without the rules of one kind derives less.
-fn kind_derives(section: &Section, kind: &Rule, all: &Tables) -> bool {
+fn kind_derives(section: &Held, kind: &Rule, all: &Tables) -> bool {
     let other = |rule: &&Rule| discriminant(*rule) != discriminant(kind);
-    let rest = Section {
+    let rest = Held {
         rules: section.rules.iter().filter(other).copied().collect(),
         marks: section.marks.clone(),
     };
@@ -80,7 +88,7 @@ fn kind_derives(section: &Section, kind: &Rule, all: &Tables) -> bool {
 }
 
 /// Rules of all four kinds have a part in what the section derives.
-fn check_kinds(section: &Section) {
+fn check_kinds(section: &Held) {
     let mut all = Tables::new();
     all.derive(section);
     let derives = |rule: &Rule| kind_derives(section, rule, &all);

@@ -1,13 +1,15 @@
 //! Generated full sections of a hole: 128 rules, 256 marks, at most 96 marked depths.
 
-use crate::random::Random;
+use dice::Dice;
+use model::held::Held;
+use model::short::{self, both, has, link, link_rule, put, via, whole, within};
+use model::terms::*;
 
 pub const SECTIONS: u64 = 100;
 
 /// Depths and distances go by steps of 10 centimetres, so that some marks are exactly a distance apart.
 const STEP: u32 = 10;
 
-const DEPTHS: usize = 96;
 const LABEL_MARKS: usize = 160;
 const LINK_MARKS: usize = 96;
 const LINKED_PAIRS: usize = 20;
@@ -20,51 +22,17 @@ const VIA_RULES: usize = 24;
 const NEVER_RULES: usize = 2;
 
 /// No rule concludes it, and few sections have marks of it: what meets it is a contradiction.
-const FORBIDDEN: u8 = 62;
-const NEVER: u8 = 63;
+const FORBIDDEN: u8 = NEVER - 1;
 
-#[derive(Clone, Copy, PartialEq)]
-pub enum Operator {
-    Within(u32),
-    Between,
-    Above,
-    Below,
-    Anywhere,
-}
-
-#[derive(Clone, Copy, PartialEq)]
-pub enum Rule {
-    Label(Operator, u8, u8),
-    Both(u8, u8, u8),
-    Link(Operator, u8, u8),
-    Via(u8, u8, u8),
-}
-
-#[derive(Clone, Copy, PartialEq)]
-pub enum Atom {
-    Has(u8, u8),
-    Linked(u8, u8, u8),
-}
-
-#[derive(Clone, Copy, PartialEq)]
-pub struct Mark {
-    pub atom: Atom,
-    pub depth: i32,
-}
-
-pub struct Section {
-    pub rules: Vec<Rule>,
-    pub marks: Vec<Mark>,
-}
-
-impl Section {
-    pub fn generate(seed: u64) -> Section {
-        let mut random = Random::new(seed);
-        Section {
-            rules: rules(&mut random),
-            marks: marks(&mut random, seed.is_multiple_of(5)),
-        }
+pub fn generate(seed: u64) -> Held {
+    let mut dice = Dice::new(seed);
+    let rules = rules(&mut dice);
+    let marks = marks(&mut dice, seed.is_multiple_of(5));
+    let mut held = Held::default();
+    for record in rules.iter().chain(&marks) {
+        held.accept(record);
     }
+    held
 }
 
 /// Adds `count` different values to the list.
@@ -78,77 +46,83 @@ fn extend<T: PartialEq>(list: &mut Vec<T>, count: usize, mut draw: impl FnMut() 
     }
 }
 
-fn label(random: &mut Random) -> u8 {
-    random.byte(1, FORBIDDEN - 1)
+/// A name from `first` to `last`, both included.
+fn name(dice: &mut Dice, first: u8, last: u8) -> u8 {
+    dice.between(first.into(), last.into()) as u8
 }
 
-fn kind(random: &mut Random) -> u8 {
-    random.byte(0, 7)
+fn label(dice: &mut Dice) -> u8 {
+    name(dice, 1, FORBIDDEN - 1)
 }
 
-fn item(random: &mut Random) -> u8 {
-    random.byte(0, 15)
+fn kind(dice: &mut Dice) -> u8 {
+    name(dice, 0, KINDS - 1)
+}
+
+fn item(dice: &mut Dice) -> u8 {
+    name(dice, 0, ITEMS - 1)
+}
+
+/// Up to `most` steps.
+fn distance(dice: &mut Dice, most: i64) -> u32 {
+    STEP * dice.between(1, most) as u32
 }
 
 /// Mostly WITHIN some metres: with many wide operators all labels would soon be everywhere.
-fn operator(random: &mut Random) -> Operator {
-    match random.between(0, 99) {
-        0..=74 => Operator::Within(STEP * random.between(1, 150)),
-        75..=92 => Operator::Between,
-        93..=95 => Operator::Above,
-        96..=98 => Operator::Below,
-        _ => Operator::Anywhere,
+fn operator(dice: &mut Dice) -> Operator {
+    match dice.below(100) {
+        0..=74 => within(distance(dice, 150)),
+        75..=92 => whole(BETWEEN),
+        93..=95 => whole(ABOVE),
+        96..=98 => whole(BELOW),
+        _ => whole(ANYWHERE),
     }
 }
 
-fn rules(random: &mut Random) -> Vec<Rule> {
+fn rules(dice: &mut Dice) -> Vec<Record> {
     let mut list = Vec::new();
     extend(&mut list, LABEL_RULES, || {
-        Rule::Label(operator(random), label(random), label(random))
+        short::label(operator(dice), label(dice), label(dice))
     });
     extend(&mut list, BOTH_RULES, || {
-        Rule::Both(label(random), label(random), label(random))
+        both(label(dice), label(dice), label(dice))
     });
     extend(&mut list, LINK_RULES, || {
-        Rule::Link(operator(random), kind(random), kind(random))
+        link_rule(operator(dice), kind(dice), kind(dice))
     });
     extend(&mut list, VIA_RULES, || {
-        Rule::Via(kind(random), label(random), label(random))
+        via(kind(dice), label(dice), label(dice))
     });
     extend(&mut list, NEVER_RULES, || {
-        Rule::Both(label(random), FORBIDDEN, NEVER)
+        both(label(dice), FORBIDDEN, NEVER)
     });
     list
 }
 
 /// Depths that rise by 10 to 400 centimetres.
-fn depths(random: &mut Random) -> Vec<i32> {
-    let start = random.between(0, 100_000) as i32;
-    (0..DEPTHS)
+fn depths(dice: &mut Dice) -> Vec<i32> {
+    let start = dice.between(0, 100_000) as i32;
+    (0..MAX_DEPTHS)
         .scan(start, |depth, _| {
-            *depth += (STEP * random.between(1, 40)) as i32;
+            *depth += distance(dice, 40) as i32;
             Some(*depth)
         })
         .collect()
 }
 
 /// Marks of labels, some of them forbidden where that is asked for, and of links.
-fn marks(random: &mut Random, forbidden: bool) -> Vec<Mark> {
-    let depths = depths(random);
+fn marks(dice: &mut Dice, forbidden: bool) -> Vec<Record> {
+    let depths = depths(dice);
     let last = FORBIDDEN - u8::from(!forbidden);
     let mut pairs = Vec::new();
-    extend(&mut pairs, LINKED_PAIRS, || (item(random), item(random)));
+    extend(&mut pairs, LINKED_PAIRS, || (item(dice), item(dice)));
     let mut list = Vec::new();
-    extend(&mut list, LABEL_MARKS, || Mark {
-        atom: Atom::Has(item(random), random.byte(1, last)),
-        depth: random.one_of(&depths),
+    extend(&mut list, LABEL_MARKS, || {
+        put(has(item(dice), name(dice, 1, last)), dice.pick(&depths))
     });
     extend(&mut list, LINK_MARKS, || {
-        let (from, to) = random.one_of(&pairs);
-        Mark {
-            atom: Atom::Linked(from, kind(random), to),
-            depth: random.one_of(&depths),
-        }
+        let (from, to) = dice.pick(&pairs);
+        put(link(from, kind(dice), to), dice.pick(&depths))
     });
     list
 }

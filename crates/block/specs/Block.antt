@@ -2,14 +2,12 @@
 use mathlib.Core.Path.{_≡_}
 use mathlib.Core.Bool.{Bool, true, false, cond, _&&_}
 use mathlib.Core.List.{List, [], _∷_, _++_}
-use Prim.Native.Nat.{ℕ, _+_, _-_, _*_, _≤_}
+use Prim.Native.Nat.{ℕ, _+_, _-_, _*_}
 use lib.Dec.{eqb}
 use lib.ListN.{length, take}
 use Rattle.codec.specs.Bytes.{little, bytes}
-use Rattle.terms.specs.Limits.{RULES, MARKS}
 use Rattle.terms.specs.Held.{Held}
 use Rattle.terms.specs.Lists.{limits}
-use Rattle.state.specs.declared.State.{State}
 use Rattle.state.specs.State.{heldOf, Counts-in}
 use Rattle.block.specs.declared.Loaded.{Loaded}
 use Rattle.block.specs.Layout.{ruleBytes, ruleAt, markBytes, markAt, tab, cat, zeros}

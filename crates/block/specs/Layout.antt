@@ -1,20 +1,17 @@
 -- A rule's and a mark's place in the block: eight bytes each.
-use Prim.Native.Nat.{ℕ, zero, suc, _+_, _*_}
+use Prim.Native.Nat.{ℕ, zero, suc, _+_}
 use mathlib.Core.Bool.{cond}
 use mathlib.Core.List.{List, [], _∷_, _++_}
 use lib.Dec.{eqb}
 use lib.ListN.{getD, replicate}
 use lib.IntN.{ℤ}
 use Rattle.codec.specs.Bytes.{little, bytes, signed32At, bytesOfSigned32}
-use Rattle.terms.specs.declared.Operator.{Operator}
-use Rattle.terms.specs.declared.Operator.the-variants.{Between}
-use Rattle.terms.specs.declared.OperatorRead.{OperatorRead}
-use Rattle.terms.specs.declared.OperatorRead.the-variants.{Valid, Invalid}
 use Rattle.terms.specs.declared.Rule.{Rule}
 use Rattle.terms.specs.declared.Rule.the-variants.{Label, Both, Link, Via}
 use Rattle.terms.specs.declared.Atom.{Atom}
 use Rattle.terms.specs.declared.Atom.the-variants.{Has, Linked}
 use Rattle.terms.specs.declared.Mark.{Mark}
+pub use Rattle.terms.specs.Operators.{orBetween}
 use Rattle.terms.specs.Operators.{operatorOf, codeOf, distanceOf}
 
 -- docs/STATE.md, a rule place: kind, three fields, n
@@ -26,11 +23,6 @@ ruleBytes (Label o A B) = placeBytes 2 (codeOf o) A B (distanceOf o)
 ruleBytes (Both A B C) = placeBytes 3 A B C 0
 ruleBytes (Link o r s) = placeBytes 4 (codeOf o) r s (distanceOf o)
 ruleBytes (Via r A B) = placeBytes 5 r A B 0
-
--- an operator, and BETWEEN for what is none
-abbrev pub orBetween : OperatorRead → Operator
-orBetween (Valid o) = o
-orBetween Invalid = Between
 
 unfoldable pub ruleOf : ℕ → ℕ → ℕ → ℕ → ℕ → Rule
 ruleOf k a b c n =

@@ -1,28 +1,25 @@
 -- What marks and rules decide, by the interpretations that satisfy them; at most one reply; and the reply, computed. Assumes nothing.
 use mathlib.Core.Path.{_≡_, refl, sym, ap, _∙_, subst}
-use mathlib.Core.Logic.{_⊎_, inl, inr, ⊎-elim, _↔_}
-use mathlib.Core.Bool.{Bool, true, false, not, cond, _&&_, _||_, true≢false}
-use mathlib.Core.List.{List, [], _∷_, _++_, List·Memᴰ·cases-cons, List·Memᴰ·not-nil}
+use mathlib.Core.Logic.{_⊎_, inl, inr, _↔_}
+use mathlib.Core.Bool.{Bool, true, false, cond, _||_, true≢false}
+use mathlib.Core.List.{List}
 use Prim.Native.Nat.{ℕ, zero, suc, _≤_, _<_, _+_}
 use native.Mathlib.Omega.{arith}
 use native.Mathlib.Decide.{decLt, ℕ-discrete}
 use lib.Dec.{T}
-use lib.IntN.{ℤ, pos, negsuc}
-use lib.Signed.{_≤ℤ_, _<ℤ_, leZ, leZ-yes}
-use lib.ListN.{length}
-use Rattle.terms.specs.declared.Rule.{Rule}
+use lib.IntN.{ℤ}
+use lib.Signed.{_≤ℤ_, _<ℤ_}
 use Rattle.terms.specs.declared.Atom.{Atom}
-use Rattle.terms.specs.declared.Atom.the-variants.{Has, Linked}
-use Rattle.terms.specs.declared.Mark.{Mark}
-use Rattle.terms.specs.Order.{ints, suc-is}
-use Rattle.terms.specs.Tests.{and-both, or-one, or-left, or-right, true-of, of-true, false-of}
-use Rattle.terms.specs.Limits.{ITEMS, EVERY, NEVER, NO-TOP, NO-BOTTOM, SHALLOWEST, DEEPEST, isDepth}
-use Rattle.terms.specs.Held.{_∈_, Held, InRange, isMarkable, isMark}
-use Rattle.terms.specs.Model.{Least, by-mark, by-every, by-rule}
+use Rattle.terms.specs.declared.Atom.the-variants.{Has}
+use Rattle.terms.specs.Order.{ints}
+use Rattle.terms.specs.Tests.{and-both, or-one, true-of, of-true, false-of}
+use Rattle.terms.specs.Limits.{ITEMS, NEVER, NO-TOP, NO-BOTTOM, isDepth}
+use Rattle.terms.specs.Held.{_∈_, Held, InRange, isMarkable}
+use Rattle.terms.specs.Model.{by-mark, by-every, by-rule}
 use Rattle.terms.specs.Depths.{Derived}
 use Rattle.terms.specs.Interpretations.{Interpretation, Satisfies, true-in-all}
 use Rattle.terms.specs.Spans.{Run, Longest}
-use Rattle.line.specs.Cuts.{upto, upto-length, cuts-asc, cuts-only}
+use Rattle.line.specs.Cuts.{upto-length, cuts-asc}
 use Rattle.line.specs.Intervals.{cutsOf, interval, count, met}
 use Rattle.line.specs.Code.{cuts-within}
 use Rattle.spans.specs.Runs.{runs}

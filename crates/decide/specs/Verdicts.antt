@@ -1,8 +1,8 @@
 -- What the lent tables say, read as the answer. Assumes nothing.
 use mathlib.Core.Path.{_≡_, refl, sym, ap, _∙_, subst}
-use mathlib.Core.Logic.{_⊎_, inl, inr, ⊎-elim}
+use mathlib.Core.Logic.{_⊎_, inl, inr}
 use mathlib.Core.Bool.{Bool, true, false, cond, _||_}
-use mathlib.Core.List.{List, [], _∷_, _++_}
+use mathlib.Core.List.{List, _∷_, _++_}
 use Prim.Native.Nat.{ℕ, zero, suc, pred, _≤_, _<_, _+_, _*_, _/_, _%_}
 use native.Mathlib.Omega.{arith}
 use native.Mathlib.Decide.{decLt}
@@ -28,7 +28,7 @@ use Rattle.tables.specs.Tables.{bit-of, labelEntry, linkEntry, labelTable, link
 use Rattle.tables.specs.Bridge.{length-tab}
 use Rattle.spans.specs.Longest.{runs-fit}
 use Rattle.spans.specs.Runs.{Begun, outside, since, runsFrom, runs, hasLabel}
-use Rattle.verdicts.specs.Reading.{anyBelow, Lookup, absent, first, lowestOf, neverIn, itemOr16, clashItem, holdsIn}
+use Rattle.verdicts.specs.Reading.{anyBelow, Lookup, absent, first, lowestOf, neverIn, itemOr16, holdsIn}
 use Rattle.decide.specs.Decide.{Question, Ask, SpansOf, Verdict, Yes, No, Spans, Reply, Contradiction, Answered, clashes, clashOr, verdict, answer}
 
 -- a reply as an answer

@@ -1,16 +1,14 @@
 -- The cases that 01 marks P: one table, one theorem, about the definition by interpretations over all integers. Assumes nothing.
 use mathlib.Core.Path.{_≡_, refl, sym, subst}
-use mathlib.Core.Logic.{_⊎_, inl, inr, ⊎-elim}
-use mathlib.Core.Bool.{Bool, true, false, _&&_}
+use mathlib.Core.Logic.{_⊎_, ⊎-elim}
 use mathlib.Core.List.{List, [], _∷_, List·Memᴰ·cases-cons, List·Memᴰ·not-nil}
 use Prim.Native.Nat.{ℕ}
 use lib.Dec.{T}
 use lib.IntN.{ℤ, pos, negsuc}
 use Rattle.terms.specs.declared.Operator.{Operator}
-use Rattle.terms.specs.declared.Operator.the-variants.{Within, Between, Above, Below, Anywhere}
+use Rattle.terms.specs.declared.Operator.the-variants.{Within, Between, Above, Below}
 use Rattle.terms.specs.declared.Rule.{Rule}
-use Rattle.terms.specs.declared.Rule.the-variants.{Label, Both, Link, Via}
-use Rattle.terms.specs.declared.Atom.{Atom}
+use Rattle.terms.specs.declared.Rule.the-variants.{Label, Via}
 use Rattle.terms.specs.declared.Atom.the-variants.{Has, Linked}
 use Rattle.terms.specs.declared.Mark.{Mark}
 use Rattle.terms.specs.Limits.{EVERY, NEVER, NO-TOP, NO-BOTTOM}

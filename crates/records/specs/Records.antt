@@ -1,21 +1,19 @@
 -- 01's records: frame, kinds and bodies, with the refusals 3 to 8.
-use mathlib.Core.Bool.{Bool, true, false, not, cond, _&&_, _||_}
-use mathlib.Core.List.{List, [], _∷_, _++_}
+use mathlib.Core.Bool.{Bool, true, false, not, cond, _&&_}
+use mathlib.Core.List.{List, [], _∷_}
 use Prim.Native.Nat.{ℕ, _+_, _-_}
 use lib.Dec.{eqb, ltb}
 use lib.IntN.{ℤ}
 use lib.ListN.{length, getD, take, drop}
 use Rattle.codec.specs.Bytes.{little, signed32At, signed64At}
-use Rattle.terms.specs.declared.Operator.{Operator}
-use Rattle.terms.specs.declared.Operator.the-variants.{Between}
 use Rattle.terms.specs.declared.OperatorRead.{OperatorRead}
 use Rattle.terms.specs.declared.OperatorRead.the-variants.{Valid, Invalid}
-use Rattle.terms.specs.declared.Rule.{Rule}
 use Rattle.terms.specs.declared.Rule.the-variants.{Label, Both, Link, Via}
 use Rattle.terms.specs.declared.Atom.{Atom}
 use Rattle.terms.specs.declared.Atom.the-variants.{Has, Linked}
 use Rattle.terms.specs.declared.Mark.{Mark}
-use Rattle.terms.specs.Limits.{isItem, isKind, isLeft, isConcluded, isLabel, isDepth}
+use Rattle.terms.specs.Limits.{isKind, isLeft, isConcluded, isDepth}
+pub use Rattle.terms.specs.Operators.{orBetween}
 use Rattle.terms.specs.Operators.{operatorOf}
 use Rattle.terms.specs.Held.{isMarkable, isStatement}
 use Rattle.terms.specs.Refusals.{Test, test, lowest}
@@ -73,10 +71,6 @@ frameTests s =
     ∷ []
 
 -- ---- the bodies: what each says, and the tests of its row
-
-abbrev pub orBetween : OperatorRead → Operator
-orBetween (Valid o) = o
-orBetween Invalid = Between
 
 abbrev pub isInvalid : OperatorRead → Bool
 isInvalid (Valid o) = false

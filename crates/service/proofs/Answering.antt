@@ -1,5 +1,5 @@
 -- What was read off the filled tables is the answer. Assumes nothing.
-use mathlib.Core.Path.{_≡_, refl, sym, ap, _∙_}
+use mathlib.Core.Path.{_≡_, sym, ap, _∙_}
 use mathlib.Core.Logic.{⊎-elim}
 use mathlib.Core.Bool.{Bool, true, false, cond}
 use mathlib.Core.List.{List, _++_}
@@ -7,7 +7,7 @@ use Prim.Native.Nat.{ℕ, zero, suc, _+_, _≤_, _<_}
 use native.Mathlib.Omega.{arith}
 use lib.Dec.{T}
 use lib.IntN.{ℤ}
-use lib.ListN.{length, take, drop}
+use lib.ListN.{take, drop}
 use Rattle.terms.specs.declared.Atom.{Atom}
 use Rattle.terms.specs.declared.Atom.the-variants.{Has}
 use Rattle.terms.specs.declared.Answer.{Answer}
@@ -25,8 +25,8 @@ use Rattle.tables.specs.Seeded.{Shown}
 use Rattle.spans.specs.Runs.{runs, hasLabel}
 use Rattle.spans.specs.Code.{Spans-written}
 use Rattle.spans.specs.Longest.{runs-fit}
-use Rattle.verdicts.specs.Reading.{Lookup, absent, first, lowestOf, neverIn, itemOr16, clashItem, holdsIn}
-use Rattle.decide.specs.Decide.{Question, Ask, SpansOf, Verdict, Yes, No, Spans, Reply, Contradiction, Answered, clashOr, answer}
+use Rattle.verdicts.specs.Reading.{Lookup, first, lowestOf, neverIn, itemOr16, clashItem, holdsIn}
+use Rattle.decide.specs.Decide.{Question, Ask, SpansOf, Verdict, Yes, No, Spans, Contradiction, Answered, clashOr, answer}
 use Rattle.decide.specs.Verdicts.{answerOf, ask-is, spans-is, clash-cases}
 use Rattle.service.specs.Code.{Held-state, Asked-as, Spanned-as, spansAfter}
 use Rattle.service.proofs.Given.{few, line-few}

@@ -3,7 +3,6 @@ use mathlib.Core.Path.{_≡_, refl, ap}
 use mathlib.Core.List.{List, [], _∷_, List·Memᴰ·head, List·Memᴰ·tail}
 use Prim.Native.Nat.{ℕ, zero, suc, _≤_, _<_}
 use native.Mathlib.Omega.{arith}
-use lib.Dec.{T}
 use lib.IntN.{ℤ}
 use lib.ListN.{length, take}
 use Rattle.terms.specs.declared.RulePlace.{RulePlace}
@@ -13,12 +12,12 @@ use Rattle.terms.specs.Tests.{and-both}
 use Rattle.terms.specs.Held.{_∈_, isRule, isMark, isMarkable, rulesIn, ruleAt}
 use Rattle.line.specs.Cuts.{upto, upto-length}
 use Rattle.line.specs.Intervals.{cutsOf}
-use Rattle.line.specs.Code.{Cuts-in, Low-cuts, Marks-in, Now-cuts, held-cuts, low-cuts}
+use Rattle.line.specs.Code.{Cuts-in, Low-cuts, Now-cuts, held-cuts, low-cuts}
 use Rattle.state.specs.declared.State.{State}
 use Rattle.state.specs.State.{heldOf}
 use Rattle.tables.specs.Seeded.{Lists-in}
-use Rattle.tables.proofs.Seeds.{marks-in}
-use Rattle.service.specs.Kept.{Within, within, few-cuts, every-in}
+use Rattle.decide.specs.Within.{Within, within, every-in}
+use Rattle.decide.specs.Count.{few-cuts}
 use Rattle.service.specs.Code.{Held-state}
 
 -- the rule in one of the first places is among the rules held
@@ -50,9 +49,6 @@ module _ (s : State) (H : Held-state s) where
     };
     cuts = few;
   }
-
-  pub marks-held : Marks-in (s .marks) (s .«mark_count»)
-  marks-held = marks-in (s .marks) (s .«mark_count») (lists-in .marks) few
 
   -- the cuts that were filled in
   pub line-in : {line : List ℤ} {r : ℕ} → Now-cuts (cutsOf (heldOf s)) line r → Cuts-in line r

@@ -1,12 +1,12 @@
 -- What the parts of the call leave is what the record comes to. Assumes nothing.
 use mathlib.Core.Path.{_≡_, refl, sym, ap, _∙_, subst}
-use mathlib.Core.Bool.{Bool, true, false, not, cond, _||_}
+use mathlib.Core.Bool.{Bool, true, false, not, cond}
 use mathlib.Core.List.{List, _++_}
-use Prim.Native.Nat.{ℕ, _≤_}
+use Prim.Native.Nat.{ℕ}
 use native.Mathlib.Omega.{arith}
 use native.Mathlib.Decide.{ℕ-discrete}
-use borrow.Author.Tests.{ltb-false, eq-eqb, ne-eqb}
-use lib.Dec.{T, eqb, ltb}
+use borrow.Author.Tests.{eq-eqb, ne-eqb}
+use lib.Dec.{T, eqb}
 use lib.IntN.{ℤ}
 use lib.ListN.{length, take, drop}
 use Rattle.terms.specs.declared.Atom.the-variants.{Has}
@@ -17,7 +17,7 @@ use Rattle.terms.specs.Refusals.{Test, lowest}
 use Rattle.terms.specs.Held.{Held, isStatement}
 use Rattle.terms.specs.Lists.{limits}
 use Rattle.state.specs.declared.Listed.{Listed}
-use Rattle.state.specs.State.{heldOf, Listed-as}
+use Rattle.state.specs.State.{Listed-as}
 use Rattle.block.specs.declared.Loaded.{Loaded}
 use Rattle.block.specs.Block.{SIZE, encode, readHeld, sameBytes, good, Loaded-as}
 use Rattle.records.specs.declared.Command.{Command}
@@ -30,7 +30,7 @@ use Rattle.records.specs.Records.{parse, spansOf}
 use Rattle.service.specs.declared.Reply as Code
 use Rattle.decide.specs.Decide.{Question, answer}
 use Rattle.service.specs.Call.{Buffers, lent, After, after, isShort, Outcome, Turned, Changed, Asked, judged, effect, onLent, call, withoutBytes, spanCall}
-pub use Rattle.service.specs.Total.{Enough, enough}
+pub use Rattle.service.specs.Code.{Enough, enough}
 use Rattle.service.specs.Code.{Held-state, Asked-as, spansAfter, afterOf, Kept-as, replied-is}
 
 -- what is given back, part by part

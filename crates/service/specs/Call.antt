@@ -1,12 +1,10 @@
 -- The record call, whole: from what is lent and the bytes left to the answer, the bytes used and what is lent afterwards.
-use mathlib.Core.Path.{_≡_}
-use mathlib.Core.Bool.{Bool, true, false, not, cond, _&&_, _||_}
+use mathlib.Core.Bool.{Bool, not, cond, _||_}
 use mathlib.Core.List.{List, [], _∷_, _++_}
-use Prim.Native.Nat.{ℕ, _+_, _*_}
+use Prim.Native.Nat.{ℕ, _+_}
 use lib.Dec.{eqb, ltb}
 use lib.IntN.{ℤ}
 use lib.ListN.{length, drop}
-use Rattle.terms.specs.declared.Atom.the-variants.{Has}
 use Rattle.terms.specs.declared.Answer.{Answer}
 use Rattle.terms.specs.declared.Answer.the-variants as Answer
 use Rattle.terms.specs.Held.{Held}
@@ -22,7 +20,7 @@ use Rattle.records.specs.declared.Parsed.the-variants as Parsed
 use Rattle.records.specs.Records.{parse, spansOf}
 use Rattle.tables.specs.Tables.{labelTable, linkTable}
 use Rattle.spans.specs.Runs.{flat}
-use Rattle.decide.specs.Decide.{Question, Ask, SpansOf, Verdict, Yes, No, Spans, Reply, Contradiction, Answered, answer}
+use Rattle.decide.specs.Decide.{Question, Ask, SpansOf, Yes, No, Spans, Reply, Contradiction, Answered, answer}
 
 -- ---- what is lent, and what a call gives back
 

@@ -1,9 +1,10 @@
 -- What the parts of the record call say.
-use mathlib.Core.Path.{_≡_, refl}
-use mathlib.Core.Bool.{Bool, true, false, cond}
+use mathlib.Core.Path.{_≡_, refl, subst}
+use mathlib.Core.Bool.{Bool, true, false, cond, _||_}
 use mathlib.Core.List.{List, _++_}
-use Prim.Native.Nat.{ℕ}
-use lib.Dec.{T}
+use Prim.Native.Nat.{ℕ, _≤_}
+use borrow.Author.Tests.{ltb-false}
+use lib.Dec.{T, ltb}
 use lib.IntN.{ℤ}
 use lib.ListN.{length, drop}
 use Rattle.terms.specs.declared.Atom.{Atom}
@@ -12,8 +13,7 @@ use Rattle.terms.specs.declared.Answer.the-variants as Answer
 use Rattle.terms.specs.Limits.{ITEMS}
 use Rattle.terms.specs.Held.{Held}
 use Rattle.terms.specs.Lists.{limits}
-use Rattle.line.specs.Intervals.{cutsOf, interval}
-use Rattle.line.specs.Code.{Now-cuts}
+use Rattle.line.specs.Intervals.{interval}
 use Rattle.state.specs.declared.State.{State}
 use Rattle.state.specs.declared.Listed.{Listed}
 use Rattle.state.specs.State.{heldOf, Counts-in}
@@ -24,19 +24,32 @@ use Rattle.service.specs.declared.Reply as Code
 use Rattle.verdicts.specs.Reading.{Lookup, absent, first, lowestOf}
 use Rattle.tables.specs.Saturate.{fact, mem}
 use Rattle.tables.specs.Executed.{model}
-use Rattle.decide.specs.Decide.{Question, Ask, Verdict, Yes, No, Spans, Reply, Contradiction, Answered, clashes, clashOr, answer}
-use Rattle.service.specs.Call.{Buffers, lent, After, after, filled, replied}
+use Rattle.decide.specs.Decide.{Question, Ask, Yes, No, Spans, Reply, Contradiction, Answered, clashes, clashOr, answer}
+use Rattle.service.specs.Call.{Buffers, lent, After, after, isShort, filled, replied}
 use Rattle.decide.specs.Verdicts.{answerOf}
+
+-- enough is lent
+pub record Enough (b t k s : ℕ) : Type 0 where
+  pub block : 3104 ≤ b
+  pub labels : 3088 ≤ t
+  pub links : 49408 ≤ k
+  pub spans : 194 ≤ s
+
+neither : (x y : Bool) → (x || y) ≡ false → (x ≡ false) × (y ≡ false)
+neither true y e = (e, absurd (subst T e tt))
+neither false y e = (refl, e)
+
+pub enough : (b t k s : ℕ) → isShort b t k s ≡ false → Enough b t k s
+enough b t k s e =
+    let (p, d) = neither (ltb b SIZE) (ltb t 3088 || (ltb k 49408 || ltb s 194)) e in
+    let (q, f) = neither (ltb t 3088) (ltb k 49408 || ltb s 194) d in
+    let (r, g) = neither (ltb k 49408) (ltb s 194) f in
+    record { block = ltb-false b SIZE p; labels = ltb-false t 3088 q; links = ltb-false k 49408 r; spans = ltb-false s 194 g }
 
 -- a state that a good block holds
 pub record Held-state (s : State) : Type 0 where
   pub counts : Counts-in s
   pub limits : T (limits (heldOf s))
-
--- both tables and the cuts of what is held
-pub record Filled (h : Held) (labels links labels′ links′ : List ℕ) (line : List ℤ) (r : ℕ) : Type 0 where
-  pub tables : Shown h labels links labels′ links′
-  pub cuts : Now-cuts (cutsOf h) line r
 
 -- the span buffer after a reply
 abbrev pub spansAfter : Reply → List ℤ → List ℤ

@@ -1,11 +1,2 @@
 pub mod Call
-pub mod Ascending
-pub mod Refused
-pub mod Total
-pub mod Kept
-pub mod Reference
-pub mod Life
-pub mod Reach
-pub mod Whole
-pub mod Lent
 pub mod Code

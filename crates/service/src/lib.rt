@@ -10,8 +10,9 @@ ghost use Rattle.state.specs.State.{heldOf, Counts-in};
 ghost use Rattle.records.specs.Proper.{Proper};
 ghost use Rattle.records.specs.declared.Parsed.the-variants as Parsed;
 ghost use Rattle.decide.specs.Decide.{Ask, SpansOf};
+ghost use Rattle.tables.specs.Seeded.{Filled};
 ghost use Rattle.service.specs.Call.{lent, isShort, judged, effect, call, spanCall};
-ghost use Rattle.service.specs.Code.{Held-state, Filled, Asked-as, Spanned-as, Kept-as, afterOf};
+ghost use Rattle.service.specs.Code.{Held-state, Asked-as, Spanned-as, Kept-as, afterOf};
 use records::Command;
 use records::Decoded;
 use records::Parsed;
@@ -60,8 +61,7 @@ fn fill(state: State, labels: &mut [u64], links: &mut [u8], cuts: &mut [i32; 192
     let marks = state.marks;
     let n = state.rule_count;
     let count = state.mark_count;
-    tables::derive(labels, links, places, n, marks, count);
-    line::cuts_of(marks, count, cuts)
+    tables::derive(labels, links, cuts, places, n, marks, count)
 }
 
 // QUERY: contradiction, yes or no.

@@ -2,3 +2,4 @@ pub mod Scan
 pub mod Exact
 pub mod Keyed
 pub mod Outcome
+pub mod Slots

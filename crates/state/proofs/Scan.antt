@@ -2,12 +2,12 @@
 use mathlib.Core.Path.{_≡_, refl, sym, ap, _∙_}
 use mathlib.Core.Bool.{Bool, true, false, not, cond, _&&_, _||_}
 use mathlib.Core.List.{List, [], _∷_, _++_, map, append-assoc}
-use Prim.Native.Nat.{ℕ, suc, _+_, _-_, _≤_, _<_}
+use Prim.Native.Nat.{ℕ, zero, suc, _+_, _-_, _≤_, _<_}
 use native.Mathlib.Omega.{arith}
 use native.Mathlib.Numerals.{add-one}
-use borrow.Author.Tests.{lt-ltb, le-ltb}
-use lib.Dec.{T, eqb, ltb, lt→ltb, ltb→lt, leb·suc-suc}
-use lib.ListN.{length, getD, take, drop, set, length-drop, length-map}
+use borrow.Author.Tests.{lt-ltb, le-ltb, ne-eqb}
+use lib.Dec.{T, eqb, ltb, lt→ltb, ltb→lt, leb·suc-suc, eqb·suc-suc}
+use lib.ListN.{length, getD, take, drop, set, length-take, length-drop, length-map}
 use lib.Seq.{drop-cons, drop-length, take-suc, take-suc-set}
 use Rattle.terms.specs.Lists.{some, every, strike, once}
 use Rattle.state.specs.Keys.{place, distinct}
@@ -23,12 +23,19 @@ test-eq false false f g = refl
 pub length-of-map : (A B : Type 0) (f : A → B) (l : List A) (n : ℕ) → length (map f l) ≡ n → length l ≡ n
 length-of-map A B f l n e = sym (length-map l f) ∙ e
 
+pub take-few : {X : Type 0} (xs : List X) (n most : ℕ) → n ≤ most → length (take n xs) ≤ most
+take-few xs n most h = omega (arith, length-take n xs)
+
 -- one element more
 pub take-more : {X : Type 0} (xs : List X) (i : ℕ) (d : X) → i < length xs → take (i + 1) xs ≡ take i xs ++ (getD xs i d ∷ [])
 take-more xs i d h = rw (add-one i) (take-suc xs i d h)
 
 pub take-more-set : {X : Type 0} (xs : List X) (i : ℕ) (x : X) → i < length xs → take (i + 1) (set xs i x) ≡ take i xs ++ (x ∷ [])
 take-more-set xs i x h = rw (add-one i) (take-suc-set xs i x h)
+
+or-true : (b : Bool) → b || true ≡ true
+or-true true = refl
+or-true false = refl
 
 ltb-add : (a p n : ℕ) → a ≤ n → ltb (a + p) n ≡ ltb p (n - a)
 ltb-add a p n h =
@@ -60,6 +67,18 @@ module _ {X : Type 0} (f : X → Bool) where
       go : (t : Bool) → some f xs ≡ ltb (place f xs) (length xs) → t || some f xs ≡ ltb (cond t 0 (suc (place f xs))) (suc (length xs))
       go true e = sym (lt-ltb 0 (suc (length xs)) (omega arith))
       go false e = e ∙ sym (leb·suc-suc (suc (place f xs)) (length xs))
+
+  -- where none passes, and where one does
+  pub some-none : (d : X) (xs : List X) → ((j : ℕ) → j < length xs → f (getD xs j d) ≡ false) → some f xs ≡ false
+  unfolding some
+  some-none d [] h = refl
+  some-none d (x ∷ xs) h = rw (h 0 (omega arith)) (some-none d xs (λ j k. h (suc j) (omega arith)))
+
+  pub some-at : (d : X) (xs : List X) (j : ℕ) → j < length xs → f (getD xs j d) ≡ true → some f xs ≡ true
+  unfolding some
+  some-at d [] j h e = let z : ⊥ = omega arith in absurd z
+  some-at d (x ∷ xs) zero h e = rw e
+  some-at d (x ∷ xs) (suc j) h e = rw (some-at d xs j (omega arith) e) (or-true (f x))
 
   pub some-behind : (xs : List X) (i : ℕ) → i ≤ length xs → ltb (i + place f (drop i xs)) (length xs) ≡ some f (drop i xs)
   some-behind xs i h =
@@ -102,14 +121,24 @@ gap-more xs left l i d h k e =
     rw (take-more-set left i (getD xs (i + 1) d) h, append-assoc (take i left) (getD xs (i + 1) d ∷ []) (drop (i + 1 + 1) xs), add-one (i + 1))
     (rw (drop-cons xs (i + 1) d k) at e)
 
--- one step of the test that no two are alike
-pub once-step : {X : Type 0} (alike : X → X → Bool) (xs : List X) (i : ℕ) (d : X) → i < length xs → once alike (drop i xs) ≡ not (some (alike (getD xs i d)) (drop (i + 1) xs)) && once alike (drop (i + 1) xs)
-unfolding once
-once-step alike xs i d h = rw (drop-cons xs i d h, add-one i)
+pub distinct-few : (ks : List ℕ) → distinct ks ≤ length ks
+unfolding distinct
+distinct-few [] = omega arith
+distinct-few (k ∷ ks) = go (some (eqb k) ks) (distinct-few ks)
+  where
+    go : (t : Bool) → distinct ks ≤ length ks → cond t 0 1 + distinct ks ≤ suc (length ks)
+    go true h = omega arith
+    go false h = omega arith
 
-pub once-end : {X : Type 0} (alike : X → X → Bool) (xs : List X) → once alike (drop (length xs) xs) ≡ true
-unfolding once
-once-end alike xs = rw (drop-length xs)
+-- no two are the same where as many are distinct as there are
+pub distinct-once : (ks : List ℕ) → eqb (distinct ks) (length ks) ≡ once eqb ks
+unfolding distinct once
+distinct-once [] = refl
+distinct-once (k ∷ ks) = go (some (eqb k) ks) (distinct-few ks) (distinct-once ks)
+  where
+    go : (t : Bool) → distinct ks ≤ length ks → eqb (distinct ks) (length ks) ≡ once eqb ks → eqb (cond t 0 1 + distinct ks) (suc (length ks)) ≡ not t && once eqb ks
+    go true h e = ne-eqb (0 + distinct ks) (suc (length ks)) (λ q. omega arith)
+    go false h e = let q : 1 + distinct ks ≡ suc (distinct ks) = omega arith in rw q (eqb·suc-suc (distinct ks) (length ks) ∙ e)
 
 and-true : (b : Bool) → b && true ≡ b
 and-true true = refl

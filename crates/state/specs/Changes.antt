@@ -1,7 +1,6 @@
 -- 01's book on the held lists: the tests of the rows `lists`, and what an accepted record changes.
-use mathlib.Core.Bool.{Bool, true, false, not, cond, _&&_}
+use mathlib.Core.Bool.{not, _&&_}
 use mathlib.Core.List.{List, [], _∷_, _++_}
-use Prim.Native.Nat.{ℕ}
 use lib.Dec.{leb}
 use lib.ListN.{length}
 use Rattle.terms.specs.declared.Rule.{Rule}

@@ -1,7 +1,7 @@
 -- What a state holds, and what the list operations say of it.
 use mathlib.Core.Path.{_≡_}
 use mathlib.Core.List.{List}
-use Prim.Native.Nat.{ℕ, _≤_}
+use Prim.Native.Nat.{_≤_}
 use lib.ListN.{length}
 use Rattle.terms.specs.Held.{Held}
 use Rattle.terms.specs.Lists.{heldIn}

@@ -14,6 +14,7 @@ ghost use Rattle.terms.specs.Lists.{some, every, once, depthCount, limits};
 ghost use Rattle.state.specs.State.{Counts-in, Empty-state, heldOf, Listed-as};
 ghost use Rattle.state.specs.Changes.{lowest, ruleTests, putTests, takeTests, addRule, putMark, takeMark};
 ghost use Rattle.state.specs.Keys.{packed, ruleKey, markKey, depthKey, ByteRule, MarkFits, DepthFits, Key-of, Keys-of, place, distinct};
+ghost use Rattle.state.specs.Slots.{slotOf, Free-slots, Said, Slots, Last-of};
 ghost use Rattle.state.specs.Holding.{Holds};
 use terms::Atom;
 use terms::DEEPEST;
@@ -31,6 +32,9 @@ use terms::Rule;
 use terms::RulePlace;
 use terms::SHALLOWEST;
 use terms::WITHIN_MOST;
+
+// How many slots the search for equal keys has: a prime, so that each bit of a key tells.
+const SLOTS: usize = 3967;
 
 pub struct State {
     pub rules: [RulePlace; 128],
@@ -172,24 +176,61 @@ fn has_depth(marks: [Mark; 256], count: usize, mark: Mark) -> bool
     is_behind(&keys[..count], 0, key)
 }
 
-// 1 where no key behind the place is the same as its own, else 0.
-fn last_of(keys: &[u64], at: usize) -> usize
+fn slot_of(key: u64) -> usize
+    ensures { λ r. ⌜ r ≡ slotOf key ⌝ }
+{
+    key as usize % SLOTS
+}
+
+fn free_slots() -> [u8; SLOTS]
+    ensures { λ r. ⌜ Free-slots r ⌝ }
+{
+    [0u8; SLOTS]
+}
+
+// The key is at some place from `from` on. Its slot mostly tells; where that says the place of another key they are searched.
+fn is_met(keys: &[u64], said: usize, from: usize, key: u64) -> bool
+    requires { ⌜ Said (now keys) from key said ⌝ }
+    requires { ⌜ from ≤ length (now keys) ⌝ }
+    ensures { λ r. ⌜ r ≡ some (eqb key) (drop from (now (keys .entry))) ⌝ }
+{
+    if said == 0 {
+        return false;
+    }
+    if key == keys[said] {
+        return true;
+    }
+    is_behind(keys, from, key)
+}
+
+// 1 where no key behind the place is the same as its own, else 0. Its slot says the place then.
+fn last_of(keys: &[u64], slots: &mut [u8; SLOTS], at: usize) -> usize
+    requires { ⌜ Slots (now keys) (at + 1) (now slots) ⌝ }
     requires { ⌜ at < length (now keys) ⌝ }
-    ensures { λ r. ⌜ r ≡ cond (some (eqb (getD (now (keys .entry)) at 0)) (drop (at + 1) (now (keys .entry)))) 0 1 ⌝ }
+    requires { ⌜ length (now keys) ≤ 256 ⌝ }
+    ensures { λ r. ⌜ Last-of (now (keys .entry)) at (now (slots .exit)) r ⌝ }
 {
     let key = keys[at];
-    if is_behind(keys, at + 1, key) {
+    let slot = slot_of(key);
+    let said = slots[slot] as usize;
+    slots[slot] = at as u8;
+    if is_met(keys, said, at + 1, key) {
         return 0;
     }
     1
 }
 
+// From the last key on, so that the slots say places behind the one in hand: never 0, which is a free slot.
 fn distinct_keys(keys: &[u64]) -> usize
+    requires { ⌜ length (now keys) ≤ 256 ⌝ }
     ensures { λ r. ⌜ r ≡ distinct (now (keys .entry)) ⌝ }
 {
+    let mut slots = free_slots();
     let mut count: usize = 0;
-    for i in 0..keys.len() {
-        count += last_of(keys, i);
+    let mut i = keys.len();
+    while 0 < i {
+        i -= 1;
+        count += last_of(keys, &mut slots, i);
     }
     count
 }
@@ -202,17 +243,12 @@ fn depth_count(marks: [Mark; 256], count: usize) -> usize
     distinct_keys(&keys[..count])
 }
 
-// No two keys are the same.
+// No two keys are the same: as many are distinct as there are.
 fn once_keys(keys: &[u64]) -> bool
+    requires { ⌜ length (now keys) ≤ 256 ⌝ }
     ensures { λ r. ⌜ r ≡ once eqb (now (keys .entry)) ⌝ }
 {
-    for i in 0..keys.len() {
-        let key = keys[i];
-        if is_behind(keys, i + 1, key) {
-            return false;
-        }
-    }
-    true
+    distinct_keys(keys) == keys.len()
 }
 
 fn rules_once(places: [RulePlace; 128], count: usize) -> bool

@@ -5,6 +5,7 @@ pub mod Refusals
 pub mod Operators
 pub mod Answers
 pub mod Held
+pub mod Names
 pub mod Same
 pub mod Lists
 pub mod Model

@@ -1,7 +1,7 @@
 -- The numbers of 01, each stated once for the definitions. `Limits::of_code` is proved to give the same ones for the code.
 use mathlib.Core.Bool.{Bool, _&&_}
 use Prim.Native.Nat.{ℕ, _+_}
-use lib.Dec.{leb, ltb}
+use lib.Dec.{ltb}
 use lib.IntN.{ℤ, pos, negsuc}
 use lib.Signed.{leZ}
 use Rattle.terms.specs.declared.Limits.{Limits}

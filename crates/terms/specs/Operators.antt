@@ -1,5 +1,4 @@
 -- 01's operators by code and n.
-use mathlib.Core.Path.{_≡_, refl}
 use mathlib.Core.Bool.{Bool, true, false, cond, _&&_}
 use Prim.Native.Nat.{ℕ}
 use lib.Dec.{eqb, leb}
@@ -60,3 +59,8 @@ isOperator Between = true
 isOperator Above = true
 isOperator Below = true
 isOperator Anywhere = true
+
+-- an operator, and BETWEEN for what is none
+abbrev pub orBetween : OperatorRead → Operator
+orBetween (Valid o) = o
+orBetween Invalid = Between

@@ -1,12 +1,12 @@
 -- The order on ℤ, read in ℕ. Every integer z is `up z` less `dn z`, so z ≤ w says `up z + dn w ≤ up w + dn z`: a linear
 -- statement that `omega` reads. The set `ints` turns each order and each equation of ℤ, in the hypotheses and in the goal,
 -- into that; of a sum or a difference that occurs, `omega (ints, sub-is a b)` says what it is. Assumes nothing.
-use mathlib.Core.Path.{_≡_, refl, sym, ap, _∙_, subst}
+use mathlib.Core.Path.{_≡_, refl, ap}
 use mathlib.Core.Logic.{_⊎_, inl, inr, _≢_}
 use mathlib.Core.Bool.{Bool, true, false, not, cond}
 use Prim.Native.Nat.{ℕ, zero, suc, _+_, _-_, _≤_, _<_}
 use native.Mathlib.Omega.{arith}
-use lib.Dec.{T, leb, ltb, leb→le, le→leb, ltb→lt, lt→ltb, nltb→le, nleb→lt}
+use lib.Dec.{T, ltb, leb→le, le→leb, ltb→lt, lt→ltb, nltb→le, nleb→lt}
 use lib.IntN.{ℤ, pos, negsuc, negℤ, sucℤ, predℤ, subℕ, _+ℤ_, _-ℤ_}
 use lib.Signed.{leZ, ltZ, _≤ℤ_, _<ℤ_, leZ-yes, ltZ-yes, ltZ-no}
 

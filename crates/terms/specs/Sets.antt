@@ -1,14 +1,13 @@
 -- 01's operator table, as sets of depths: what `Gives` says of two members is what the table's words say of the set. Assumes nothing.
-use mathlib.Core.Path.{_≡_, refl, sym, subst}
-use mathlib.Core.Logic.{_⊎_, inl, inr, ⊎-elim, _↔_}
+use mathlib.Core.Path.{_≡_, sym, subst}
+use mathlib.Core.Logic.{_⊎_, inl, inr, _↔_}
 use Prim.Native.Nat.{ℕ, zero, suc, _+_, _-_, _<_, _≤_}
-use native.Mathlib.Omega.{arith}
 use lib.IntN.{ℤ, pos, negℤ, _+ℤ_, _-ℤ_}
 use lib.Signed.{_≤ℤ_, _<ℤ_}
 use Rattle.terms.specs.declared.Operator.{Operator}
 use Rattle.terms.specs.declared.Operator.the-variants.{Within, Between, Above, Below, Anywhere}
 use Rattle.terms.specs.Order.{up, dn, ints, add-is, sub-is, neg-up, neg-dn, neg-neg, le-or-gt, ≤-refl}
-use Rattle.terms.specs.Depths.{Near, Gives}
+use Rattle.terms.specs.Depths.{Gives}
 
 abbrev pub Set : Type 1
 Set = ℤ → Type 0

@@ -1,17 +1,18 @@
 -- What a search that stops at the first hit has found, and the names and the bit of a statement. Assumes nothing.
 use mathlib.Core.Path.{_≡_, refl, sym, ap, subst}
 use mathlib.Core.Logic.{⊎-elim}
-use mathlib.Core.Bool.{Bool, true, false, _&&_}
+use mathlib.Core.Bool.{Bool, true, false}
 use mathlib.Core.List.{List}
 use Prim.Native.Nat.{ℕ, zero, suc, _+_, _*_, _<_, _≤_}
 use native.Mathlib.Nat.{eq-or-lt-of-le}
 use native.Mathlib.Omega.{arith}
-use lib.Dec.{T, eqb, ltb→lt}
+use lib.Dec.{T, eqb}
 use lib.ListN.{getD}
 use Rattle.terms.specs.declared.Atom.{Atom}
 use Rattle.terms.specs.declared.Atom.the-variants.{Has, Linked}
-use Rattle.terms.specs.Tests.{and-both, or-left, or-right, of-true, true-of}
-use Rattle.terms.specs.Limits.{ITEMS, NEVER, isItem, isKind, isLabel}
+use Rattle.terms.specs.Tests.{or-left, or-right, of-true, true-of}
+use Rattle.terms.specs.Limits.{ITEMS, NEVER}
+use Rattle.terms.specs.Names.{label-names, link-names}
 use Rattle.terms.specs.Held.{isStatement}
 use Rattle.words.specs.Bit.{bitAt}
 use Rattle.spans.specs.Runs.{hasLabel}
@@ -57,16 +58,11 @@ clash-absent labels h = sym (ap itemOr16 (lowest-absent (neverIn labels) ITEMS 0
 -- ---- a statement
 
 -- the names in it, as numbers
-pub label-names : (x : Atom) (a A : ℕ) → x ≡ Has a A → T (isStatement x) → (a < 16) × (A < 64)
-label-names x a A e t =
-    let w = and-both (isItem a) (isLabel A) (subst (λ y. T (isStatement y)) e t) in
-    (ltb→lt a 16 (w .0), ltb→lt A 64 (w .1))
+pub names-of-label : (x : Atom) (a A : ℕ) → x ≡ Has a A → T (isStatement x) → (a < 16) × (A < 64)
+names-of-label x a A e t = label-names a A (subst (λ y. T (isStatement y)) e t)
 
-pub link-names : (x : Atom) (a r b : ℕ) → x ≡ Linked a r b → T (isStatement x) → (a < 16) × (r < 8) × (b < 16)
-link-names x a r b e t =
-    let w = and-both (isItem a) (isKind r && isItem b) (subst (λ y. T (isStatement y)) e t) in
-    let v = and-both (isKind r) (isItem b) (w .1) in
-    (ltb→lt a 16 (w .0), ltb→lt r 8 (v .0), ltb→lt b 16 (v .1))
+pub names-of-link : (x : Atom) (a r b : ℕ) → x ≡ Linked a r b → T (isStatement x) → (a < 16) × (r < 8) × (b < 16)
+names-of-link x a r b e t = link-names a r b (subst (λ y. T (isStatement y)) e t)
 
 -- its bit, found under the names as the code has them
 module _ (labels links : List ℕ) (x : Atom) (p : ℕ) where

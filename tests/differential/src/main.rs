@@ -2,7 +2,6 @@
 //! Arguments: seconds to run (default 100) and the first seed (default 1).
 
 mod damage;
-mod panel;
 mod plan;
 mod source;
 mod stream;

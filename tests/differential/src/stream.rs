@@ -1,7 +1,6 @@
 //! One stream of calls, made to the archive and to the model alike.
 
 use crate::damage::{damage, lengths, refill, spoil, with_rest, WHOLE};
-use crate::panel;
 use crate::plan::plan;
 use crate::source::Source;
 use crate::tally::Tally;
@@ -10,6 +9,7 @@ use model::block::{decode, encode, SIZE};
 use model::frame::bytes;
 use model::service::{self, Lent, Memory};
 use model::terms::Answer;
+use panel::Numbers;
 
 #[derive(Debug)]
 enum Call {
@@ -108,17 +108,17 @@ impl Stream {
                 (answer, 0, (returned, 0))
             }
         };
-        let (number, value) = expected.numbers();
-        if returned != (number * 65_536 + value, used) {
-            let (answer, got) = (returned.0 / 65_536, returned.0 % 65_536);
-            let wanted = format!("answer {number} value {value} used {used}");
-            return Err(format!(
-                "{wanted} expected, answer {answer} value {got} used {} given",
-                returned.1
-            ));
+        let wanted = (expected.numbers(), used);
+        if returned != wanted {
+            let (wanted, given) = (said(wanted), said(returned));
+            return Err(format!("{wanted} expected, {given} given"));
         }
         differing(&self.model, &self.real).map_or(Ok(expected), Err)
     }
+}
+
+fn said(((number, value), used): (Numbers, u64)) -> String {
+    format!("answer {number} value {value} used {used}")
 }
 
 fn first<T: PartialEq + std::fmt::Debug>(name: &str, model: &[T], real: &[T]) -> Option<String> {

@@ -1,4 +1,4 @@
-//! Short names for writing records down in tests.
+//! Short names for writing records down in tests, and the specification's worked example.
 
 use crate::terms::*;
 
@@ -49,4 +49,21 @@ pub fn query(fact: Fact, depth: i64) -> Record {
 
 pub fn spans(item: u8, label: u8) -> Record {
     Record::Spans { item, label }
+}
+
+/// Its last record puts a mark again.
+pub fn worked_example() -> [Record; 11] {
+    [
+        label(within(11), 1, 1),
+        label(within(20), 2, 3),
+        both(1, 3, 4),
+        put(has(0, 1), 100),
+        put(has(0, 1), 109),
+        put(has(0, 2), 104),
+        put(has(0, 2), 123),
+        query(has(0, 4), 106),
+        query(has(0, 4), 110),
+        spans(0, 4),
+        put(has(0, 1), 100),
+    ]
 }

@@ -24,21 +24,8 @@ fn last(records: &[Record]) -> String {
 }
 
 #[test]
-fn worked_example() {
-    let records = [
-        label(within(11), 1, 1),
-        label(within(20), 2, 3),
-        both(1, 3, 4),
-        put(has(0, 1), 100),
-        put(has(0, 1), 109),
-        put(has(0, 2), 104),
-        put(has(0, 2), 123),
-        query(has(0, 4), 106),
-        query(has(0, 4), 110),
-        spans(0, 4),
-        put(has(0, 1), 100),
-    ];
-    let input: Vec<u8> = records.iter().flat_map(bytes).collect();
+fn worked_example_listing() {
+    let input: Vec<u8> = worked_example().iter().flat_map(bytes).collect();
     let expected = "1 done\n2 done\n3 done\n4 done\n5 done\n6 done\n7 done\n8 yes\n9 no\n\
                     10 spans 1 104:109\n11 refused 9\n";
     assert_eq!(listing(&input), expected);

@@ -22,20 +22,8 @@ pub fn patterns(script: &mut Script) {
         .for_each(|(place, value)| script.poke(place, value));
 }
 
-pub fn worked_example(script: &mut Script) {
-    script.send_all([
-        label(within(11), 1, 1),
-        label(within(20), 2, 3),
-        both(1, 3, 4),
-        put(has(0, 1), 100),
-        put(has(0, 1), 109),
-        put(has(0, 2), 104),
-        put(has(0, 2), 123),
-        query(has(0, 4), 106),
-        query(has(0, 4), 110),
-        spans(0, 4),
-        put(has(0, 1), 100),
-    ]);
+pub fn example(script: &mut Script) {
+    script.send_all(worked_example());
     script.spans(&WHOLE, 0, 3);
 }
 

@@ -12,7 +12,7 @@ fn build() -> Script {
     let mut script = Script::new();
     let cases = [
         cases::patterns,
-        cases::worked_example,
+        cases::example,
         cases::refused_frames,
         cases::refused_bodies,
         cases::short_memory,

@@ -1,16 +1,13 @@
--- The limits of what is held are what both calls ask for, and their results are the two fields.
-use Rattle.service.proofs.Given.{lists-in, marks-held}
+-- The limits of what is held are what the derivation asks for, and what it says is what is asked here.
+use Rattle.service.proofs.Given.{lists-in}
 use borrow.Author.Needs.{needs}
 use Rattle.service.proofs.fill.Statement.{statement}
 use Rattle.service.proofs.fill.Tie as tie
 
 derive-requires : tie.Need-derive-requires
-derive-requires c κs = let start = c .before .before .before .before .before .before in (lists-in (start .args .state) (start .pre .0), start .pre .1, start .pre .2)
-
-cuts-of-requires : tie.Need-cuts-of-requires
-cuts-of-requires c κs =
-    let start = c .before .before .before .before .before .before .before .before .before .before .before .before in
-    (marks-held (start .args .state) (start .pre .0), start .pre .3)
+derive-requires c κs =
+    let start = c .before .before .before .before .before .before .before in
+    (lists-in (start .args .state) (start .pre .0), start .pre .1, start .pre .2, start .pre .3)
 
 same-length : tie.Need-same-length
 same-length c = search needs
@@ -19,7 +16,7 @@ same-length-2 : tie.Need-same-length-2
 same-length-2 c = search needs
 
 returns : tie.Need-returns
-returns c = record { tables = c .before .before .before .before .before .before .derive .ensures; cuts = c .cuts-of .ensures }
+returns c = search needs
 
 pub fill-spec : {M : Type 1} → statement M
-fill-spec = tie.close (tie.spec derive-requires cuts-of-requires same-length same-length-2 returns)
+fill-spec = tie.close (tie.spec derive-requires same-length same-length-2 returns)

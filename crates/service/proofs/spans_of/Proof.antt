@@ -1,6 +1,5 @@
 -- Lent memory first; then the names decide, and the spans are those of what the block holds.
 use mathlib.Core.Path.{refl, sym, ap, _∙_}
-use Rattle.state.specs.State.{heldOf}
 use lib.ListN.{length}
 use Rattle.block.specs.Block.{readHeld}
 use Rattle.records.specs.Records.{spansOf}

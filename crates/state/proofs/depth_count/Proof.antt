@@ -2,6 +2,7 @@
 use mathlib.Core.Path.{sym, _∙_}
 use native.Mathlib.Omega.{arith}
 use lib.Seq.{length-take-le}
+use Rattle.state.proofs.Scan.{take-few}
 use Rattle.state.proofs.Keyed.{distinct-depths}
 use borrow.Author.Needs.{needs}
 use Rattle.state.proofs.depth_count.Statement.{statement}
@@ -17,7 +18,7 @@ slice-aggregate-distinct-keys : tie.Need-slice-aggregate-distinct-keys
 slice-aggregate-distinct-keys c = sym (length-take-le _ _ (omega arith))
 
 distinct-keys-requires : tie.Need-distinct-keys-requires
-distinct-keys-requires c κs = search needs
+distinct-keys-requires c κs = take-few _ (c .before .before .args .count) 256 (omega arith)
 
 returns : tie.Need-returns
 returns c =

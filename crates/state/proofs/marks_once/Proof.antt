@@ -5,6 +5,7 @@ use lib.Seq.{length-take-le}
 use Rattle.terms.specs.Same.{sameMark}
 use Rattle.state.specs.Keys.{markKey, MarkFits}
 use Rattle.state.proofs.Exact.{mark-exact}
+use Rattle.state.proofs.Scan.{take-few}
 use Rattle.state.proofs.Keyed.{once-keys}
 use borrow.Author.Needs.{needs}
 use Rattle.state.proofs.marks_once.Statement.{statement}
@@ -20,7 +21,7 @@ slice-aggregate-once-keys : tie.Need-slice-aggregate-once-keys
 slice-aggregate-once-keys c = sym (length-take-le _ _ (omega arith))
 
 once-keys-requires : tie.Need-once-keys-requires
-once-keys-requires c κs = search needs
+once-keys-requires c κs = take-few _ (c .before .before .args .count) 256 (omega arith)
 
 returns : tie.Need-returns
 returns c =

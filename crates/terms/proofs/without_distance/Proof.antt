@@ -2,8 +2,6 @@
 use borrow.Author.Tests.{ne-eqb}
 use Rattle.terms.proofs.without_distance.Statement.{statement}
 use Rattle.terms.proofs.without_distance.Tie as tie
-use Rattle.terms.proofs.without_distance.Reads as reads
-use Rattle.terms.proofs.without_distance.Lts as lts
 
 returns : tie.Need-returns
 returns c = simp (c .if1 .taken)

@@ -4,9 +4,6 @@ use borrow.Author.Tests.{le-leb, lt-leb, ne-eqb}
 use borrow.Author.Needs.{needs}
 use Rattle.terms.proofs.Operator.new.Statement.{statement}
 use Rattle.terms.proofs.Operator.new.Tie as tie
-use Rattle.terms.proofs.Operator.new.Reads as reads
-use Rattle.terms.proofs.Operator.new.Lts as lts
-use Rattle.terms.proofs.without_distance.Reads as without-distance-reads
 
 returns : tie.Need-returns
 returns c = simp (c .before .match .keys1, c .if1 .taken)

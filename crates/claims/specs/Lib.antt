@@ -1,0 +1,9 @@
+pub mod Ascending
+pub mod Refused
+pub mod Total
+pub mod Kept
+pub mod Reference
+pub mod Life
+pub mod Reach
+pub mod Whole
+pub mod Lent
