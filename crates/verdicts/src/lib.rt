@@ -6,6 +6,7 @@ ghost use lib.ListN.{length};
 ghost use Rattle.terms.specs.Held.{isStatement};
 ghost use Rattle.verdicts.specs.Reading.{neverIn, clashItem, holdsIn};
 use terms::Atom;
+use terms::wide;
 
 fn wide_word(x: u8) -> u64
     ensures { λ r. ⌜ r ≡ x ⌝ }
@@ -50,14 +51,10 @@ pub fn holds(labels: &[u64], links: &[u8], atom: Atom, p: usize) -> bool
     ensures { λ r. ⌜ r ≡ holdsIn (now (labels .entry)) (now (links .entry)) atom p ⌝ }
 {
     match atom {
-        Atom::Has(item, label) => words::bit(
-            labels[terms::wide(item) * 193 + p],
-            terms::wide(label),
-        )
-            == 1,
+        Atom::Has(item, label) => words::bit(labels[wide(item) * 193 + p], wide(label)) == 1,
         Atom::Linked(from, kind, to) => {
-            let at = (terms::wide(from) * 16 + terms::wide(to)) * 193 + p;
-            words::bit(wide_word(links[at]), terms::wide(kind)) == 1
+            let at = (wide(from) * 16 + wide(to)) * 193 + p;
+            words::bit(wide_word(links[at]), wide(kind)) == 1
         }
     }
 }
