@@ -2,7 +2,7 @@
  * Harmikse: the depth label service, as a C library.
  *
  * The caller lends four pieces of memory and the bytes of a record; the library holds nothing between calls, allocates
- * nothing, calls nothing of the host's and has no global state.
+ * nothing and has no global state. It needs memcpy and memset, and nothing else of the C library.
  *
  *   block   the state: every rule and mark accepted so far. All zeros is the empty state. Keep it from call to call and
  *           write it with nothing else: a block that no run of records leads to is refused with 2.
@@ -14,8 +14,8 @@
  * written. What tables and span buffer hold before a call plays no part; they need no clearing.
  *
  * Ownership: all memory stays the caller's, and is used during the call alone. Of block, labels, links, spans and used
- * none may overlap another, and none may overlap the input. Pointers are aligned for their type. Where a length is 0 the
- * pointer is not used.
+ * none may overlap another, and none may overlap the input. Pointers are not null and aligned for their type, also where
+ * a length is 0; nothing is read or written there then.
  *
  * Threads: calls on different memory are independent and may run at once. Memory that is lent to a call belongs to that
  * call until it returns; a block belongs to one call at a time. harmikse_spans only reads the block, so calls of it may
