@@ -1,6 +1,6 @@
 -- The numbers of 01, each stated once for the definitions. `Limits::of_code` is proved to give the same ones for the code.
 use mathlib.Core.Bool.{Bool, _&&_}
-use Prim.Native.Nat.{ℕ, _+_}
+use Prim.Native.Nat.{ℕ, _+_, _*_}
 use lib.Dec.{ltb}
 use lib.IntN.{ℤ, pos, negsuc}
 use lib.Signed.{leZ}
@@ -32,9 +32,22 @@ MARKS = 256
 abbrev pub DEPTHS : ℕ
 DEPTHS = 96
 
--- 01, Pieces of the line: at most so many pieces, two cuts for each marked depth and one more
+-- 01, Pieces of the line: a marked depth cuts the line at most twice, and there is one piece more than cuts
+abbrev pub CUTS : ℕ
+CUTS = DEPTHS + DEPTHS
+
 abbrev pub INTERVALS : ℕ
-INTERVALS = DEPTHS + DEPTHS + 1
+INTERVALS = CUTS + 1
+
+-- 01, State and tables: the numbers of the label table, the bytes of the link table, the numbers of the span buffer
+abbrev pub LABEL-ENTRIES : ℕ
+LABEL-ENTRIES = ITEMS * INTERVALS
+
+abbrev pub LINK-ENTRIES : ℕ
+LINK-ENTRIES = ITEMS * ITEMS * INTERVALS
+
+abbrev pub SPAN-NUMBERS : ℕ
+SPAN-NUMBERS = INTERVALS + 1
 
 -- 01, Operators: the largest n of WITHIN
 abbrev pub WITHIN-MOST : ℕ
@@ -64,7 +77,11 @@ stated = record {
   rules = RULES;
   marks = MARKS;
   depths = DEPTHS;
+  cuts = CUTS;
   intervals = INTERVALS;
+  «label_entries» = LABEL-ENTRIES;
+  «link_entries» = LINK-ENTRIES;
+  «span_numbers» = SPAN-NUMBERS;
   «within_most» = WITHIN-MOST;
   shallowest = SHALLOWEST;
   deepest = DEEPEST;

@@ -22,7 +22,15 @@ pub const MARKS: usize = 256;
 
 pub const DEPTHS: usize = 96;
 
+pub const CUTS: usize = 192;
+
 pub const INTERVALS: usize = 193;
+
+pub const LABEL_ENTRIES: usize = 3_088;
+
+pub const LINK_ENTRIES: usize = 49_408;
+
+pub const SPAN_NUMBERS: usize = 194;
 
 pub const WITHIN_MOST: u32 = 300_000;
 
@@ -44,7 +52,11 @@ pub struct Limits {
     pub rules: usize,
     pub marks: usize,
     pub depths: usize,
+    pub cuts: usize,
     pub intervals: usize,
+    pub label_entries: usize,
+    pub link_entries: usize,
+    pub span_numbers: usize,
     pub within_most: u32,
     pub shallowest: i32,
     pub deepest: i32,
@@ -65,7 +77,11 @@ impl Limits {
             rules: RULES,
             marks: MARKS,
             depths: DEPTHS,
+            cuts: CUTS,
             intervals: INTERVALS,
+            label_entries: LABEL_ENTRIES,
+            link_entries: LINK_ENTRIES,
+            span_numbers: SPAN_NUMBERS,
             within_most: WITHIN_MOST,
             shallowest: SHALLOWEST,
             deepest: DEEPEST,
