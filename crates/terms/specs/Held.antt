@@ -1,6 +1,6 @@
 -- What is held, and the ranges of what can be.
 use mathlib.Core.Path.{_≡_}
-use mathlib.Core.Bool.{Bool, _&&_}
+use mathlib.Core.Bool.{Bool, true, _&&_}
 use mathlib.Core.List.{List, List·Memᴰ, map}
 use Prim.Native.Nat.{ℕ}
 use lib.Dec.{T}
@@ -12,18 +12,25 @@ use Rattle.terms.specs.declared.RulePlace.{RulePlace}
 use Rattle.terms.specs.declared.Atom.{Atom}
 use Rattle.terms.specs.declared.Atom.the-variants.{Has, Linked}
 use Rattle.terms.specs.declared.Mark.{Mark}
+use Rattle.terms.specs.declared.Question.{Question}
+use Rattle.terms.specs.declared.Question.the-variants as Question
+use Rattle.terms.specs.declared.Settings.{Settings}
 use Rattle.terms.specs.Limits.{isItem, isKind, isLeft, isConcluded, isMarked, isLabel, isDepth}
 use Rattle.terms.specs.Operators.{isOperator}
+use Rattle.terms.specs.Same.{operatorIn}
 
 infix 50 _∈_
 abbrev pub _∈_ : {X : Type 0} → X → List X → Type 0
 x ∈ xs = List·Memᴰ x xs
 
--- what records set until RESET beside the lists: nothing yet
-abbrev pub Settings : Type 0
-Settings = Unit {0}
+-- 01, The book: what RESET sets beside the lists, and what may be set; nothing is set yet
+abbrev pub freshSettings : Settings
+freshSettings = record {}
 
--- 01, State and tables: the held rules and marks, in the order of putting
+abbrev pub isSettings : Settings → Bool
+isSettings s = true
+
+-- 01, State and tables: the held rules and marks, in the order of putting, and the settings
 pub record Held : Type 0 where
   pub rules : List Rule
   pub marks : List Mark
@@ -60,12 +67,21 @@ abbrev pub isStatement : Atom → Bool
 isStatement (Has a A) = isItem a && isLabel A
 isStatement (Linked a r b) = isItem a && (isKind r && isItem b)
 
+-- 01, Records: a question names what there is; its depth may be any
+abbrev pub isQuestion : Question → Bool
+isQuestion (Question.Holds x i) = isStatement x
+isQuestion (Question.Spans a A) = isStatement (Has a A)
+
+-- 01, Records: the labels and link kinds of a rule
+abbrev pub isNamed : Rule → Bool
+isNamed (Label op A B) = isLeft A && isConcluded B
+isNamed (Both A B C) = isLeft A && (isLeft B && isConcluded C)
+isNamed (Link op r s) = isKind r && isKind s
+isNamed (Via r A B) = isKind r && (isLeft A && isConcluded B)
+
 -- 01, Records: the fields of a rule
 abbrev pub isRule : Rule → Bool
-isRule (Label op A B) = isOperator op && (isLeft A && isConcluded B)
-isRule (Both A B C) = isLeft A && (isLeft B && isConcluded C)
-isRule (Link op r s) = isOperator op && (isKind r && isKind s)
-isRule (Via r A B) = isKind r && (isLeft A && isConcluded B)
+isRule ρ = isOperator (operatorIn ρ) && isNamed ρ
 
 -- 01, Records: the fields of a mark, without its depth
 abbrev pub isMarkable : Atom → Bool

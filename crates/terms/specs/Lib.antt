@@ -2,12 +2,15 @@ pub mod Order
 pub mod Tests
 pub mod Limits
 pub mod Refusals
+pub mod Ranks
 pub mod Operators
+pub mod Readings
 pub mod Answers
+pub mod Same
 pub mod Held
 pub mod Names
-pub mod Same
 pub mod Lists
+pub mod Limited
 pub mod Model
 pub mod Transfer
 pub mod Depths

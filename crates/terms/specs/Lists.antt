@@ -7,7 +7,8 @@ use lib.ListN.{length, take}
 use Rattle.terms.specs.declared.RulePlace.{RulePlace}
 use Rattle.terms.specs.declared.Mark.{Mark}
 use Rattle.terms.specs.Limits.{RULES, MARKS, DEPTHS}
-use Rattle.terms.specs.Held.{Held, rulesIn, isRule, isMark}
+use Rattle.terms.specs.declared.Settings.{Settings}
+use Rattle.terms.specs.Held.{Held, rulesIn, isRule, isMark, isSettings}
 use Rattle.terms.specs.Same.{sameRule, sameMark, sameDepth}
 
 -- some element passes
@@ -35,12 +36,12 @@ unfoldable pub depthCount : List Mark → ℕ
 depthCount [] = 0
 depthCount (m ∷ ms) = cond (some (λ n. sameDepth (m .depth) (n .depth)) ms) 0 1 + depthCount ms
 
--- 01, Names and depths and Records: what the held lists keep
+-- 01, Names and depths and Records: what the held lists and settings keep
 unfoldable pub limits : Held → Bool
 limits h =
     leb (length (h .rules)) RULES && (leb (length (h .marks)) MARKS && (leb (depthCount (h .marks)) DEPTHS
-    && (every isRule (h .rules) && (every isMark (h .marks) && (once sameRule (h .rules) && once sameMark (h .marks))))))
+    && (every isRule (h .rules) && (every isMark (h .marks) && (once sameRule (h .rules) && (once sameMark (h .marks) && isSettings (h .settings)))))))
 
--- what the first places of the two lists hold
-abbrev pub heldIn : List RulePlace → ℕ → List Mark → ℕ → Held
-heldIn ps n ms m = record { rules = rulesIn ps n; marks = take m ms; settings = tt }
+-- what the first places of the two lists hold, under the settings
+abbrev pub heldIn : List RulePlace → ℕ → List Mark → ℕ → Settings → Held
+heldIn ps n ms m s = record { rules = rulesIn ps n; marks = take m ms; settings = s }

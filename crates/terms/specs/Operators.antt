@@ -6,6 +6,8 @@ use Rattle.terms.specs.declared.Operator.{Operator}
 use Rattle.terms.specs.declared.Operator.the-variants.{Within, Between, Above, Below, Anywhere}
 use Rattle.terms.specs.declared.OperatorRead.{OperatorRead}
 use Rattle.terms.specs.declared.OperatorRead.the-variants.{Valid, Invalid}
+use Rattle.terms.specs.declared.Tested.{Tested}
+use Rattle.terms.specs.declared.Tested.the-variants as Tested
 use Rattle.terms.specs.Limits.{WITHIN-MOST}
 
 -- the operator where its n passes
@@ -43,14 +45,10 @@ distanceOf Above = 0
 distanceOf Below = 0
 distanceOf Anywhere = 0
 
--- 01, Cases at the edges: WITHIN 1 gives M
-abbrev pub identityOperator : Operator
-identityOperator = Within 1
-
 -- 01, Where a record is turned away: code or n out of range is 7
-abbrev pub readNumber : OperatorRead → ℕ
-readNumber (Valid o) = 0
-readNumber Invalid = 7
+abbrev pub readTested : OperatorRead → Tested
+readTested (Valid o) = Tested.Passed
+readTested Invalid = Tested.Refused 7
 
 -- an operator whose n is in range
 abbrev pub isOperator : Operator → Bool
@@ -60,7 +58,7 @@ isOperator Above = true
 isOperator Below = true
 isOperator Anywhere = true
 
--- an operator, and BETWEEN for what is none
-abbrev pub orBetween : OperatorRead → Operator
-orBetween (Valid o) = o
-orBetween Invalid = Between
+-- an operator, and WITHIN 1 for what is none: it gives each set itself
+abbrev pub orIdentity : OperatorRead → Operator
+orIdentity (Valid o) = o
+orIdentity Invalid = Within 1

@@ -1,7 +1,22 @@
--- 01's refusal table, as a list of tests.
+-- 01's refusal table, as a list of tests, and the order of its numbers.
 use mathlib.Core.Bool.{Bool, cond}
 use mathlib.Core.List.{List, [], _∷_}
-use Prim.Native.Nat.{ℕ}
+use Prim.Native.Nat.{ℕ, suc}
+use lib.Dec.{eqb}
+use Rattle.terms.specs.declared.Tested.{Tested}
+use Rattle.terms.specs.declared.Tested.the-variants as Tested
+
+-- 01, Where a record is turned away: the numbers in the order in which they are judged
+abbrev pub order : List ℕ
+order = 1 ∷ 2 ∷ 3 ∷ 4 ∷ 5 ∷ 6 ∷ 7 ∷ 8 ∷ 9 ∷ 10 ∷ 11 ∷ 12 ∷ []
+
+abbrev pub rankIn : List ℕ → ℕ → ℕ
+rankIn [] n = 1
+rankIn (m ∷ ms) n = cond (eqb n m) 1 (suc (rankIn ms n))
+
+-- a number's place in the order, counted from 1; a number that is not in it comes after all
+unfoldable pub rank : ℕ → ℕ
+rank n = rankIn order n
 
 -- a row of the table: where it applies, and its number
 pub record Test : Type 0 where
@@ -11,7 +26,16 @@ pub record Test : Type 0 where
 abbrev pub test : Bool → ℕ → Test
 test b n = record { applies = b; number = n }
 
--- 01, Where a record is turned away: the lowest number that applies, the first since the rows ascend; 0 for none
-abbrev pub lowest : List Test → ℕ
-lowest [] = 0
-lowest (t ∷ ts) = cond (t .applies) (t .number) (lowest ts)
+-- 01, Where a record is turned away: the lowest number that applies, the first since the rows ascend by rank
+abbrev pub tested : List Test → Tested
+tested [] = Tested.Passed
+tested (t ∷ ts) = cond (t .applies) (Tested.Refused (t .number)) (tested ts)
+
+-- one thing where no test applies, another by the number where one does
+abbrev pub onTested : {A : Type 0} → A → (ℕ → A) → Tested → A
+onTested a f Tested.Passed = a
+onTested a f (Tested.Refused n) = f n
+
+-- this, and where it passes what comes after it
+abbrev pub orElse : Tested → Tested → Tested
+orElse t u = onTested u Tested.Refused t

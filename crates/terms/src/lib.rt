@@ -1,10 +1,14 @@
 // The vocabulary: operators, rules, marks, answers and the paper's limits.
 ghost use mathlib.Core.Path.{_≡_};
-ghost use Rattle.terms.specs.Limits.{stated};
+ghost use mathlib.Core.Bool.{cond};
 ghost use lib.Dec.{eqb};
-ghost use Rattle.terms.specs.Operators.{readIf, operatorOf, codeOf, distanceOf, identityOperator, readNumber};
+ghost use Rattle.terms.specs.Limits.{stated, isItem, isKind, isLeft, isConcluded, isMarked, isLabel, isDepth};
+ghost use Rattle.terms.specs.Refusals.{orElse};
+ghost use Rattle.terms.specs.declared.Tested.the-variants as Outcome;
+ghost use Rattle.terms.specs.Operators.{readIf, operatorOf, codeOf, distanceOf, isOperator, orIdentity, readTested};
 ghost use Rattle.terms.specs.Answers.{numberOf, valueOf};
-ghost use Rattle.terms.specs.Held.{emptyMark, emptyPlace};
+ghost use Rattle.terms.specs.Same.{operatorIn};
+ghost use Rattle.terms.specs.Held.{isSettings, isNamed, isRule, isMarkable, isStatement, isMark, isQuestion};
 
 pub const ITEMS: u8 = 16;
 
@@ -91,6 +95,79 @@ impl Limits {
     }
 }
 
+// What the tests of a table of refusals come to: none applies, or the number of the first that does.
+pub enum Tested {
+    Passed,
+    Refused(u8),
+}
+
+impl Tested {
+    // One test: refused with the number unless it passes.
+    pub fn unless(passes: bool, number: u8) -> Tested
+        ensures { λ r. ⌜ r ≡ cond passes Outcome.Passed (Outcome.Refused number) ⌝ }
+    {
+        if passes {
+            return Tested::Passed;
+        }
+        Tested::Refused(number)
+    }
+
+    // This, and where it passes what comes after it.
+    pub fn or(self, later: Tested) -> Tested
+        ensures { λ r. ⌜ r ≡ orElse self later ⌝ }
+    {
+        match self {
+            Tested::Passed => later,
+            Tested::Refused(number) => Tested::Refused(number),
+        }
+    }
+}
+
+pub fn is_item(item: u8) -> bool
+    ensures { λ r. ⌜ r ≡ isItem item ⌝ }
+{
+    item < ITEMS
+}
+
+pub fn is_kind(kind: u8) -> bool
+    ensures { λ r. ⌜ r ≡ isKind kind ⌝ }
+{
+    kind < KINDS
+}
+
+// A label on a rule's left side.
+pub fn is_left(label: u8) -> bool
+    ensures { λ r. ⌜ r ≡ isLeft label ⌝ }
+{
+    label < NEVER
+}
+
+pub fn is_concluded(label: u8) -> bool
+    ensures { λ r. ⌜ r ≡ isConcluded label ⌝ }
+{
+    (EVERY < label) & (label < LABELS)
+}
+
+pub fn is_marked(label: u8) -> bool
+    ensures { λ r. ⌜ r ≡ isMarked label ⌝ }
+{
+    (EVERY < label) & (label < NEVER)
+}
+
+// A label that a question may name.
+pub fn is_label(label: u8) -> bool
+    ensures { λ r. ⌜ r ≡ isLabel label ⌝ }
+{
+    label < LABELS
+}
+
+// A depth that a mark may have.
+pub fn is_depth(depth: i32) -> bool
+    ensures { λ r. ⌜ r ≡ isDepth depth ⌝ }
+{
+    (SHALLOWEST <= depth) & (depth <= DEEPEST)
+}
+
 // An operator with its distance inside it.
 pub enum Operator {
     Within(u32),
@@ -143,12 +220,6 @@ impl Operator {
         }
     }
 
-    pub fn identity() -> Operator
-        ensures { λ r. ⌜ r ≡ identityOperator ⌝ }
-    {
-        Operator::WITHIN_1
-    }
-
     pub fn code(self) -> u8
         ensures { λ r. ⌜ r ≡ codeOf self ⌝ }
     {
@@ -172,16 +243,38 @@ impl Operator {
             Operator::Anywhere => 0,
         }
     }
+
+    // Its distance is one that WITHIN may have.
+    pub fn in_range(self) -> bool
+        ensures { λ r. ⌜ r ≡ isOperator self ⌝ }
+    {
+        match self {
+            Operator::Within(n) => (1 <= n) & (n <= WITHIN_MOST),
+            Operator::Between => true,
+            Operator::Above => true,
+            Operator::Below => true,
+            Operator::Anywhere => true,
+        }
+    }
 }
 
 impl OperatorRead {
-    // The refusal's number, 0 where there is none.
-    pub fn number(self) -> u8
-        ensures { λ r. ⌜ r ≡ readNumber self ⌝ }
+    pub fn tested(self) -> Tested
+        ensures { λ r. ⌜ r ≡ readTested self ⌝ }
     {
         match self {
-            OperatorRead::Valid(_) => 0,
-            OperatorRead::Invalid => 7,
+            OperatorRead::Valid(_) => Tested::Passed,
+            OperatorRead::Invalid => Tested::Refused(7),
+        }
+    }
+
+    // The operator; for what is none, the one that changes nothing.
+    pub fn or_identity(self) -> Operator
+        ensures { λ r. ⌜ r ≡ orIdentity self ⌝ }
+    {
+        match self {
+            OperatorRead::Valid(operator) => operator,
+            OperatorRead::Invalid => Operator::WITHIN_1,
         }
     }
 }
@@ -194,6 +287,38 @@ pub enum Rule {
     Via(u8, u8, u8),
 }
 
+impl Rule {
+    // The labels and link kinds are in range.
+    pub fn is_named(self) -> bool
+        ensures { λ r. ⌜ r ≡ isNamed self ⌝ }
+    {
+        match self {
+            Rule::Label(_, a, b) => is_left(a) & is_concluded(b),
+            Rule::Both(a, b, c) => is_left(a) & (is_left(b) & is_concluded(c)),
+            Rule::Link(_, r, s) => is_kind(r) & is_kind(s),
+            Rule::Via(r, a, b) => is_kind(r) & (is_left(a) & is_concluded(b)),
+        }
+    }
+
+    // A rule without an operator of its own has BETWEEN for this test, as in the definition.
+    pub fn operator(self) -> Operator
+        ensures { λ r. ⌜ r ≡ operatorIn self ⌝ }
+    {
+        match self {
+            Rule::Label(operator, _, _) => operator,
+            Rule::Both(_, _, _) => Operator::BETWEEN,
+            Rule::Link(operator, _, _) => operator,
+            Rule::Via(_, _, _) => Operator::BETWEEN,
+        }
+    }
+
+    pub fn in_range(self) -> bool
+        ensures { λ r. ⌜ r ≡ isRule self ⌝ }
+    {
+        self.operator().in_range() & self.is_named()
+    }
+}
+
 // A place of the rule list: an array holds structs, and these hold the enum.
 pub struct RulePlace {
     pub rule: Rule,
@@ -204,18 +329,51 @@ impl RulePlace {
     pub const EMPTY: RulePlace = RulePlace {
         rule: Rule::Both(0, 0, 0),
     };
-
-    pub fn empty() -> RulePlace
-        ensures { λ r. ⌜ r ≡ emptyPlace ⌝ }
-    {
-        RulePlace::EMPTY
-    }
 }
 
 // A statement without its depth: an item has a label; a link leads from one item to another.
 pub enum Atom {
     Has(u8, u8),
     Linked(u8, u8, u8),
+}
+
+impl Atom {
+    // It may be marked.
+    pub fn is_markable(self) -> bool
+        ensures { λ r. ⌜ r ≡ isMarkable self ⌝ }
+    {
+        match self {
+            Atom::Has(item, label) => is_item(item) & is_marked(label),
+            Atom::Linked(from, kind, to) => is_item(from) & (is_kind(kind) & is_item(to)),
+        }
+    }
+
+    // It may be asked for.
+    pub fn is_statement(self) -> bool
+        ensures { λ r. ⌜ r ≡ isStatement self ⌝ }
+    {
+        match self {
+            Atom::Has(item, label) => is_item(item) & is_label(label),
+            Atom::Linked(from, kind, to) => is_item(from) & (is_kind(kind) & is_item(to)),
+        }
+    }
+}
+
+// A question: whether a statement holds at a depth; where an item has a label.
+pub enum Question {
+    Holds(Atom, i64),
+    Spans(u8, u8),
+}
+
+impl Question {
+    pub fn in_range(self) -> bool
+        ensures { λ r. ⌜ r ≡ isQuestion self ⌝ }
+    {
+        match self {
+            Question::Holds(atom, _) => atom.is_statement(),
+            Question::Spans(item, label) => is_item(item) & is_label(label),
+        }
+    }
 }
 
 pub struct Mark {
@@ -230,10 +388,26 @@ impl Mark {
         depth: 0,
     };
 
-    pub fn empty() -> Mark
-        ensures { λ r. ⌜ r ≡ emptyMark ⌝ }
+    pub fn in_range(self) -> bool
+        ensures { λ r. ⌜ r ≡ isMark self ⌝ }
     {
-        Mark::EMPTY
+        let atom = self.atom;
+        let depth = self.depth;
+        atom.is_markable() & is_depth(depth)
+    }
+}
+
+// What records set until RESET beside the lists: nothing yet.
+pub struct Settings {}
+
+impl Settings {
+    // What RESET sets.
+    pub const FRESH: Settings = Settings {};
+
+    pub fn in_range(self) -> bool
+        ensures { λ r. ⌜ r ≡ isSettings self ⌝ }
+    {
+        true
     }
 }
 
