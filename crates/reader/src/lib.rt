@@ -1,23 +1,23 @@
 // 01, Records: a reader carries the input slice and how far it has read. The borrow checker covers no function over a struct that holds a
-// slice, so these few are thin and their proofs walk the code; `parse_at`, on slice and place, does the work.
+// slice, so these few are thin and their proofs walk the code; `frame_at`, on slice and place, does the work.
 ghost use mathlib.Core.Path.{_≡_};
 ghost use lib.ListN.{drop};
-ghost use Rattle.records.specs.Records.{parse as parsedAs};
-use records::Parsed;
+ghost use Rattle.records.specs.Records.{framed};
+use records::Framed;
 
 pub struct Reader<'a> {
     pub src: &'a [u8],
     pub at: usize,
 }
 
-// The work: what stands from a place of the input on.
-pub fn parse_at(src: &[u8], at: usize) -> Parsed
-    ensures { λ r. ⌜ r ≡ parsedAs (drop at (now (src .entry))) ⌝ }
+// The work: the frame of what stands from a place of the input on.
+pub fn frame_at(src: &[u8], at: usize) -> Framed
+    ensures { λ r. ⌜ r ≡ framed (drop at (now (src .entry))) ⌝ }
 {
     if at < src.len() {
-        return records::parse(&src[at..]);
+        return records::frame(&src[at..]);
     }
-    Parsed::Nothing
+    Framed::Nothing
 }
 
 // A reader that has read up to a place.
@@ -27,23 +27,16 @@ pub fn from<'a>(src: &'a [u8], at: usize) -> Reader<'a>
     Reader { src, at }
 }
 
-// How far it has read.
-pub fn place<'a>(r: Reader<'a>) -> usize
-    ensures { λ n. ⌜ n ≡ r .entry .at ⌝ }
+// The frame of the record that comes next.
+pub fn next<'a>(r: Reader<'a>) -> Framed
+    ensures { λ p. ⌜ p ≡ framed (drop (r .entry .at) (now (r .entry .src))) ⌝ }
 {
-    r.at
+    frame_at(r.src, r.at)
 }
 
-// The record that comes next.
-pub fn next<'a>(r: Reader<'a>) -> Parsed
-    ensures { λ p. ⌜ p ≡ parsedAs (drop (r .entry .at) (now (r .entry .src))) ⌝ }
-{
-    parse_at(r.src, r.at)
-}
-
-// The record at a place of the input, for callers that hold slice and place themselves.
-pub fn read(src: &[u8], at: usize) -> Parsed
-    ensures { λ p. ⌜ p ≡ parsedAs (drop at (now (src .entry))) ⌝ }
+// The frame at a place of the input, for callers that hold slice and place themselves.
+pub fn read(src: &[u8], at: usize) -> Framed
+    ensures { λ p. ⌜ p ≡ framed (drop at (now (src .entry))) ⌝ }
 {
     next(from(src, at))
 }

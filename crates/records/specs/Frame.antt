@@ -1,60 +1,142 @@
 -- The frame: what its tests come to once the length field is in range, and a record that passes them. Assumes nothing.
-use mathlib.Core.Path.{_≡_, refl, sym, ap, _∙_}
-use mathlib.Core.Bool.{Bool, true, false, cond, not}
-use mathlib.Core.List.{List, _++_}
+use mathlib.Core.Path.{_≡_, refl, sym, ap, _∙_, subst}
+use mathlib.Core.Bool.{Bool, true, false, not, cond}
+use mathlib.Core.List.{List, [], _∷_, _++_}
 use Prim.Native.Nat.{ℕ, _+_, _-_, _≤_, _<_}
 use native.Mathlib.Omega.{arith}
-use borrow.Author.Tests.{le-ltb, eq-eqb, ne-eqb}
-use lib.Dec.{eqb}
+use borrow.Author.Tests.{le-ltb, ltb-false, ne-eqb}
+use lib.Dec.{T, eqb, ltb}
 use lib.ListN.{length}
 use lib.Seq.{take-all}
 use Rattle.codec.specs.Bytes.{little, bytes}
-use Rattle.records.specs.declared.Parsed.{Parsed}
-use Rattle.records.specs.declared.Parsed.the-variants as Parsed
-use Rattle.records.specs.Records.{lengthOf, lengthField, kindField, bodyOf, decodeBody, withUsed, parse}
+use Rattle.terms.specs.declared.Settings.{Settings}
+use Rattle.terms.specs.declared.Tested.{Tested}
+use Rattle.terms.specs.declared.Tested.the-variants as Tested
+use Rattle.terms.specs.Tests.{true-of}
+use Rattle.terms.specs.Refusals.{rank, Test, test, tested, onTested}
+use Rattle.records.specs.declared.Lengths.{Lengths}
+use Rattle.records.specs.declared.Lengths.the-variants as Lengths
+use Rattle.records.specs.declared.Framed.{Framed}
+use Rattle.records.specs.declared.Framed.the-variants as Framed
+use Rattle.records.specs.Records.{
+  lengthField,
+  kindField,
+  bodyOf,
+  allows,
+  isUnknown,
+  lengthsOf,
+  kindTests,
+  frameTests,
+  usedFor,
+  framed,
+  decodeBody,
+  parsedBody,
+  parsedFrame,
+  parse,
+}
 
--- no such kind, and the kind's own length: what the two tests leave
-abbrev pub framed : Bool → Bool → ℕ → List ℕ → ℕ → Parsed
-framed true q k b u = Parsed.Refused 4 u
-framed false false k b u = Parsed.Refused 5 u
-framed false true k b u = withUsed (decodeBody k b) u
+-- the record of a kind where no test applies; else all of its bytes are used
+abbrev pub framedAs : Tested → ℕ → ℕ → Framed
+framedAs t k u = onTested (Framed.Record k u) (λ n. Framed.Refused n u) t
 
--- the number that those tests give
-abbrev number : Bool → Bool → ℕ
-number p q = cond p 4 (cond (not q) 5 0)
+-- the tests of a kind give 4 or 5, and so length + 2 bytes are used
+kind-framed :
+    (l : Lengths) (n k u : ℕ) (s : List ℕ) → u ≡ lengthField s + 2 →
+    onTested (Framed.Record k u) (λ m. Framed.Refused m (usedFor m s)) (tested (kindTests l n)) ≡ framedAs (tested (kindTests l n)) k u
+unfolding rank
+kind-framed l n k u s e = go (isUnknown l) (allows l n)
+  where
+    go :
+        (p q : Bool) → let t = tested (test p 4 ∷ test (not q) 5 ∷ []) in
+        onTested (Framed.Record k u) (λ m. Framed.Refused m (usedFor m s)) t ≡ framedAs t k u
+    go true q = ap (Framed.Refused 4) (sym e)
+    go false true = refl
+    go false false = ap (Framed.Refused 5) (sym e)
 
-by-number : (p q : Bool) (k : ℕ) (b : List ℕ) (n u : ℕ) → cond (eqb (number p q) 0) (withUsed (decodeBody k b) u) (Parsed.Refused (number p q) (cond (eqb (number p q) 3) n u)) ≡ framed p q k b u
-by-number true q k b n u = refl
-by-number false false k b n u = refl
-by-number false true k b n u = refl
-
-pub parse-framed :
+pub frame-kind :
     (s : List ℕ) → 4 ≤ length s → 2 ≤ lengthField s → lengthField s ≤ length s - 2 →
-    parse s ≡ framed (eqb (lengthOf (kindField s)) 0) (eqb (lengthOf (kindField s)) (lengthField s)) (kindField s) (bodyOf s) (lengthField s + 2)
-unfolding parse
-parse-framed s enough two fits =
+    framed s ≡ framedAs (tested (kindTests (lengthsOf (kindField s)) (lengthField s))) (kindField s) (lengthField s + 2)
+unfolding framed
+frame-kind s enough two fits =
     simp (ne-eqb (length s) 0 (λ e. omega arith), le-ltb (length s) 4 enough, le-ltb (lengthField s) 2 two, le-ltb (length s - 2) (lengthField s) fits)
-    (by-number (eqb (lengthOf (kindField s)) 0) (eqb (lengthOf (kindField s)) (lengthField s)) (kindField s) (bodyOf s) (length s) (lengthField s + 2))
+    (kind-framed (lengthsOf (kindField s)) (lengthField s) (kindField s) (lengthField s + 2) s refl)
 
--- a record of a kind and a body, as bytes
+-- ---- a record that has a frame
+
+pub record Framed-in (s : List ℕ) (k u : ℕ) : Type 0 where
+  pub kind : k ≡ kindField s
+  pub used : u ≡ lengthField s + 2
+  pub least : 4 ≤ u
+  pub room : u ≤ length s
+  pub allowed : T (allows (lengthsOf k) (lengthField s))
+
+abbrev Frame-facts : List ℕ → Framed → Type 0
+Frame-facts s Framed.Nothing = Unit {0}
+Frame-facts s (Framed.Refused n u) = Unit {0}
+Frame-facts s (Framed.Record k u) = Framed-in s k u
+
+-- of a choice with nothing to show in its first arm
+otherwise : {X : Type 0} (P : X → Type 0) (b : Bool) {x y : X} → P x → (b ≡ false → P y) → P (cond b x y)
+otherwise P true p q = p
+otherwise P false p q = q refl
+
+not-false : (b : Bool) → not b ≡ false → T b
+not-false true e = tt
+not-false false e = subst T e tt
+
+frame-facts : (s : List ℕ) → Frame-facts s (framed s)
+unfolding framed
+frame-facts s =
+    otherwise (Frame-facts s) (eqb (length s) 0) tt
+    (λ z. otherwise P (ltb (length s) 4) tt
+    (λ a. otherwise P (ltb (lengthField s) 2) tt
+    (λ b. otherwise P (ltb (length s - 2) (lengthField s)) tt
+    (λ c. otherwise P (isUnknown l) tt
+    (λ d. otherwise P (not (allows l (lengthField s))) tt
+    (λ e. record {
+      kind = refl;
+      used = refl;
+      least = omega (arith, ltb-false (lengthField s) 2 b);
+      room = omega (arith, ltb-false (length s) 4 a, ltb-false (length s - 2) (lengthField s) c);
+      allowed = not-false (allows l (lengthField s)) e;
+    }))))))
+  where
+    l : Lengths
+    l = lengthsOf (kindField s)
+
+    P : Tested → Type 0
+    P t = Frame-facts s (onTested (Framed.Record (kindField s) (lengthField s + 2)) (λ n. Framed.Refused n (usedFor n s)) t)
+
+pub framed-in : (s : List ℕ) (k u : ℕ) → framed s ≡ Framed.Record k u → Framed-in s k u
+framed-in s k u e = subst (Frame-facts s) e (frame-facts s)
+
+-- ---- a record of a kind and a body, as bytes
+
 abbrev pub recordBytes : ℕ → List ℕ → List ℕ
 recordBytes k b = bytes 2 (length b + 2) ++ (bytes 2 k ++ b)
 
--- a record whose body has its kind's length is read as that kind and body
-pub parse-record : (k : ℕ) (b : List ℕ) → length b + 2 ≡ lengthOf k → k < 65536 → length b + 2 < 65536 → parse (recordBytes k b) ≡ withUsed (decodeBody k b) (length (recordBytes k b))
-unfolding bytes little
-parse-record k b known small short =
+known : (l : Lengths) (n : ℕ) → T (allows l n) → tested (kindTests l n) ≡ Tested.Passed
+known (Lengths.Exactly m) n t = ap (λ v. tested (test (not v) 5 ∷ [])) (true-of (allows (Lengths.Exactly m) n) t)
+known (Lengths.AtLeast m) n t = ap (λ v. tested (test (not v) 5 ∷ [])) (true-of (allows (Lengths.AtLeast m) n) t)
+known Lengths.Unknown n t = absurd t
+
+-- a record whose body has a length of its kind is read as that kind and body
+pub parse-record :
+    (σ : Settings) (k : ℕ) (b : List ℕ) → T (allows (lengthsOf k) (length b + 2)) → k < 65536 → length b + 2 < 65536 →
+    parse σ (recordBytes k b) ≡ parsedBody (decodeBody σ k b) b (length (recordBytes k b))
+unfolding bytes little parse
+parse-record σ k b allowed small short =
     let s : List ℕ = recordBytes k b in
     let l : lengthField s ≡ length b + 2 = omega arith in
     let e : kindField s ≡ k = omega arith in
-    let f : lengthOf (kindField s) ≡ lengthField s = ap lengthOf e ∙ sym known ∙ sym l in
     let body : bodyOf s ≡ b = take-all (lengthField s + 2 - 4) b (omega arith) in
     let u : lengthField s + 2 ≡ length s = omega arith in
-    let p : eqb (lengthOf (kindField s)) 0 ≡ false = ne-eqb (lengthOf (kindField s)) 0 (λ z. omega arith) in
-    let q : eqb (lengthOf (kindField s)) (lengthField s) ≡ true = eq-eqb _ _ f in
-    parse-framed s (omega arith) (omega arith) (omega arith)
-    ∙ ap (λ (x : Bool). framed x (eqb (lengthOf (kindField s)) (lengthField s)) (kindField s) (bodyOf s) (lengthField s + 2)) p
-    ∙ ap (λ (x : Bool). framed false x (kindField s) (bodyOf s) (lengthField s + 2)) q
-    ∙ ap (λ (x : ℕ). withUsed (decodeBody x (bodyOf s)) (lengthField s + 2)) e
-    ∙ ap (λ (x : List ℕ). withUsed (decodeBody k x) (lengthField s + 2)) body
-    ∙ ap (λ (x : ℕ). withUsed (decodeBody k b) x) u
+    let t : T (allows (lengthsOf (kindField s)) (lengthField s)) =
+    subst (λ (n : ℕ). T (allows (lengthsOf (kindField s)) n)) (sym l) (subst (λ (n : ℕ). T (allows (lengthsOf n) (length b + 2))) (sym e) allowed) in
+    let f : framed s ≡ Framed.Record (kindField s) (lengthField s + 2) =
+    frame-kind s (omega arith) (omega arith) (omega arith)
+    ∙ ap (λ (x : Tested). framedAs x (kindField s) (lengthField s + 2)) (known (lengthsOf (kindField s)) (lengthField s) t) in
+    ap (λ (x : Framed). parsedFrame σ s x) f
+    ∙ ap (λ (x : ℕ). parsedBody (decodeBody σ x (bodyOf s)) (bodyOf s) (lengthField s + 2)) e
+    ∙ ap (λ (x : List ℕ). parsedBody (decodeBody σ k x) x (lengthField s + 2)) body
+    ∙ ap (λ (x : ℕ). parsedBody (decodeBody σ k b) b x) u

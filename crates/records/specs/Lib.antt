@@ -1,5 +1,4 @@
+pub mod Parsed
 pub mod Records
-pub mod Used
 pub mod Frame
 pub mod Proper
-pub mod Body

@@ -1,18 +1,16 @@
 -- What is read is in range, and what is in range reads back. Assumes nothing.
-use mathlib.Core.Path.{_≡_, refl, ap, _∙_, subst}
+use mathlib.Core.Path.{_≡_, refl, sym, ap, _∙_, subst}
 use mathlib.Core.Bool.{Bool, true, false, not, cond, _&&_}
 use mathlib.Core.List.{List, [], _∷_, _++_}
-use Prim.Native.Nat.{ℕ, _+_, _^_, _<_}
+use Prim.Native.Nat.{ℕ, _+_, _<_}
 use native.Mathlib.Omega.{arith}
-use borrow.Author.Tests.{eqb-true}
-use lib.Dec.{T, eqb, leb, leb→le}
-use lib.Signed.{leZ}
-use lib.IntN.{ℤ, pos, negsuc}
+use lib.Dec.{T, eqb}
+use lib.IntN.{ℤ}
 use lib.ListN.{length, getD}
 use mir.Syntax.{w32}
 use mir.Val.{SFits, toZ, ofZ}
 use mir.ValLaws.{ofZ-fits, toZ-ofZ}
-use Rattle.codec.specs.Bytes.{little, bytes, bytesOfSigned32, signed64At}
+use Rattle.codec.specs.Bytes.{little, bytes, bytesOfSigned32}
 use Rattle.codec.proofs.Laws.{little-bytes}
 use Rattle.terms.specs.declared.Operator.{Operator}
 use Rattle.terms.specs.declared.Operator.the-variants.{Within, Between, Above, Below, Anywhere}
@@ -23,18 +21,55 @@ use Rattle.terms.specs.declared.Rule.the-variants.{Label, Both, Link, Via}
 use Rattle.terms.specs.declared.Atom.{Atom}
 use Rattle.terms.specs.declared.Atom.the-variants.{Has, Linked}
 use Rattle.terms.specs.declared.Mark.{Mark}
-use Rattle.terms.specs.Limits.{isKind, isLeft, isConcluded, isDepth, WITHIN-MOST, SHALLOWEST, DEEPEST}
-use Rattle.terms.specs.Operators.{readIf, isDistance, operatorOf, codeOf, distanceOf, isOperator}
-use Rattle.terms.specs.Held.{isRule, isMark, isMarkable, isStatement}
-use Rattle.terms.specs.Refusals.{test, lowest}
+use Rattle.terms.specs.declared.Question.{Question}
+use Rattle.terms.specs.declared.Settings.{Settings}
+use Rattle.terms.specs.declared.Tested.{Tested}
+use Rattle.terms.specs.declared.Tested.the-variants as Tested
+use Rattle.terms.specs.Limits.{isDepth}
+use Rattle.terms.specs.Operators.{operatorOf, codeOf, distanceOf, isOperator, orIdentity}
+use Rattle.terms.specs.Readings.{ProperRead, read-proper, operator-read, distance-fits, depth-fits}
+use Rattle.terms.specs.Held.{isNamed, isRule, isMark, isMarkable, isQuestion}
+use Rattle.terms.specs.Refusals.{test, tested}
 use Rattle.terms.specs.Tests.{and-both, both-and}
 use Rattle.records.specs.declared.Command.{Command}
 use Rattle.records.specs.declared.Command.the-variants as Command
 use Rattle.records.specs.declared.Decoded.{Decoded}
 use Rattle.records.specs.declared.Decoded.the-variants as Decoded
-use Rattle.records.specs.declared.Parsed.{Parsed}
-use Rattle.records.specs.declared.Parsed.the-variants as Parsed
-use Rattle.records.specs.Records.{lengthOf, frameTests, isInvalid, orBetween, operatorIn, labelMark, linkMark, markTests, askTests, decodedBy, decodeBody, withUsed, kindField, bodyOf, lengthField, parse}
+use Rattle.records.specs.declared.Framed.{Framed}
+use Rattle.records.specs.declared.Framed.the-variants as Framed
+use Rattle.records.specs.Parsed.{Parsed}
+use Rattle.records.specs.Parsed as Parsed
+use Rattle.records.specs.Records.{
+  operatorAt,
+  isInvalid,
+  labelRule,
+  bothRule,
+  linkRule,
+  viaRule,
+  labelMark,
+  linkMark,
+  labelQuestion,
+  linkQuestion,
+  spansQuestion,
+  namedTests,
+  operatorTests,
+  markTests,
+  questionTests,
+  allows,
+  Kind,
+  kinds,
+  atKind,
+  lengthsOf,
+  bodyTests,
+  commandIn,
+  decodedAs,
+  decodeBody,
+  bodyOf,
+  framed,
+  parsedBody,
+  parsedFrame,
+  parse,
+}
 use Rattle.records.specs.Frame.{recordBytes, parse-record}
 
 -- a command whose names, operator and depth are in range; a question's depth may be any
@@ -43,15 +78,42 @@ Proper Command.Reset = true
 Proper (Command.Add ρ) = isRule ρ
 Proper (Command.Put m) = isMark m
 Proper (Command.Take m) = isMark m
-Proper (Command.Ask x i) = isStatement x
-Proper (Command.Spans a A) = isStatement (Has a A)
+Proper (Command.Ask q) = isQuestion q
+
+-- ---- the table, row by row
+
+-- each row has P
+abbrev pub Rows : (Kind → Type 0) → List Kind → Type 0
+Rows P [] = Unit {0}
+Rows P (r ∷ rs) = P r × Rows P rs
+
+-- so what is said of a kind has it
+pub at-rows : {A : Type 0} (P : A → Type 0) (f : Kind → A) (d : A) (rs : List Kind) → P d → Rows (λ r. P (f r)) rs → (k : ℕ) → P (atKind f d rs k)
+at-rows P f d [] p w k = p
+at-rows P f d (r ∷ rs) p w k = go (eqb k (r .number)) (at-rows P f d rs p (w .1) k)
+  where
+    go : (b : Bool) → P (atKind f d rs k) → P (cond b (f r) (atKind f d rs k))
+    go true q = w .0
+    go false q = q
+
+-- a body of a kind is what its row makes of it
+decoded-rows :
+    (σ : Settings) (b : List ℕ) (rs : List Kind) (k : ℕ) →
+    decodedAs (tested (atKind (λ r. r .tests σ b) [] rs k)) (atKind (λ r. r .command b) Command.Reset rs k)
+    ≡ atKind (λ r. decodedAs (tested (r .tests σ b)) (r .command b)) (Decoded.Command Command.Reset) rs k
+decoded-rows σ b [] k = refl
+decoded-rows σ b (r ∷ rs) k = go (eqb k (r .number)) (decoded-rows σ b rs k)
+  where
+    go :
+        (v : Bool) →
+        decodedAs (tested (atKind (λ r. r .tests σ b) [] rs k)) (atKind (λ r. r .command b) Command.Reset rs k)
+        ≡ atKind (λ r. decodedAs (tested (r .tests σ b)) (r .command b)) (Decoded.Command Command.Reset) rs k →
+        decodedAs (tested (cond v (r .tests σ b) (atKind (λ r. r .tests σ b) [] rs k))) (cond v (r .command b) (atKind (λ r. r .command b) Command.Reset rs k))
+        ≡ cond v (decodedAs (tested (r .tests σ b)) (r .command b)) (atKind (λ r. decodedAs (tested (r .tests σ b)) (r .command b)) (Decoded.Command Command.Reset) rs k)
+    go true e = refl
+    go false e = e
 
 -- ---- what is read is in range
-
--- an operator that was read is in range
-abbrev ProperRead : OperatorRead → Type 0
-ProperRead (Valid o) = T (isOperator o)
-ProperRead Invalid = Unit {0}
 
 -- a command that a body gives is in range
 abbrev ProperDecoded : Decoded → Type 0
@@ -62,104 +124,90 @@ ProperDecoded (Decoded.Refused n) = Unit {0}
 abbrev ProperParsed : Parsed → Type 0
 ProperParsed Parsed.Nothing = Unit {0}
 ProperParsed (Parsed.Refused n u) = Unit {0}
-ProperParsed (Parsed.Command c u) = T (Proper c)
+ProperParsed (Parsed.Record c b u) = T (Proper c)
 
--- of both arms, so of either
-either : {X : Type 0} (P : X → Type 0) (b : Bool) {x y : X} → P x → P y → P (cond b x y)
-either P true p q = p
-either P false p q = q
+-- what passes one test, and two
+one-test : (p : Bool) (n : ℕ) (c : Command) → (T p → T (Proper c)) → ProperDecoded (decodedAs (tested (test (not p) n ∷ [])) c)
+one-test true n c h = h tt
+one-test false n c h = tt
 
-read-if : (b : Bool) (o : Operator) → (T b → T (isOperator o)) → ProperRead (readIf b o)
-read-if true o h = h tt
-read-if false o h = tt
+two-tests : (p q : Bool) (m n : ℕ) (c : Command) → (T (p && q) → T (Proper c)) → ProperDecoded (decodedAs (tested (test (not p) m ∷ test (not q) n ∷ [])) c)
+two-tests true true m n c h = h tt
+two-tests true false m n c h = tt
+two-tests false q m n c h = tt
 
-read-proper : (c n : ℕ) → ProperRead (operatorOf c n)
-read-proper c n =
-    either ProperRead (eqb c 1) (read-if (isDistance n) (Within n) (λ t. t))
-    (either ProperRead (eqb c 2) (read-if (eqb n 0) Between (λ t. tt))
-    (either ProperRead (eqb c 3) (read-if (eqb n 0) Above (λ t. tt))
-    (either ProperRead (eqb c 4) (read-if (eqb n 0) Below (λ t. tt))
-    (either ProperRead (eqb c 5) (read-if (eqb n 0) Anywhere (λ t. tt)) tt))))
+-- an operator that was read is in range
+operator-test :
+    (p : Bool) (r : OperatorRead) (c : Command) → ProperRead r → (T (isOperator (orIdentity r)) → T p → T (Proper c)) →
+    ProperDecoded (decodedAs (tested (test (not p) 6 ∷ test (isInvalid r) 7 ∷ [])) c)
+operator-test true (Valid o) c g h = h g tt
+operator-test true Invalid c g h = tt
+operator-test false r c g h = tt
 
--- so of every code and distance
-pub operator-proper : (c n : ℕ) (o : Operator) → operatorOf c n ≡ Valid o → T (isOperator o)
-operator-proper c n o e = subst ProperRead e (read-proper c n)
+mark-test : (m : Mark) (c : Command) → (T (isMark m) → T (Proper c)) → (σ : Settings) → ProperDecoded (decodedAs (tested (markTests σ m)) c)
+mark-test m c h σ = two-tests (isMarkable (m .atom)) (isDepth (m .depth)) 6 8 c h
 
--- a command is given only where no test applies
-when-none : (n : ℕ) (c : Command) → (n ≡ 0 → T (Proper c)) → ProperDecoded (cond (eqb n 0) (Decoded.Command c) (Decoded.Refused n))
-when-none n c h = go (eqb n 0) (eqb-true n 0)
-  where
-    go : (b : Bool) → (b ≡ true → n ≡ 0) → ProperDecoded (cond b (Decoded.Command c) (Decoded.Refused n))
-    go true e = h (e refl)
-    go false e = tt
+question-test : (q : Question) (σ : Settings) → ProperDecoded (decodedAs (tested (questionTests σ q)) (Command.Ask q))
+question-test q σ = one-test (isQuestion q) 6 (Command.Ask q) (λ t. t)
 
--- what the tests leave: names; names and the operator; names and the depth
-names-left : (p : Bool) → lowest (test (not p) 6 ∷ []) ≡ 0 → T p
-names-left true e = tt
-names-left false e = omega arith
+rule-test : (b : List ℕ) (ρ : Rule) → (T (isOperator (orIdentity (operatorAt b))) → T (isNamed ρ) → T (isRule ρ)) → (σ : Settings) → ProperDecoded (decodedAs (tested (operatorTests σ (operatorAt b) ρ)) (Command.Add ρ))
+rule-test b ρ h σ = operator-test (isNamed ρ) (operatorAt b) (Command.Add ρ) (read-proper (getD b 0 0) (little 4 b 1)) h
 
-rule-left : (p : Bool) (r : OperatorRead) → ProperRead r → lowest (test (not p) 6 ∷ test (isInvalid r) 7 ∷ []) ≡ 0 → T (isOperator (orBetween r) && p)
-rule-left true (Valid o) h e = both-and (isOperator o) true h tt
-rule-left true Invalid h e = let z : ⊥ = omega arith in absurd z
-rule-left false r h e = let z : ⊥ = omega arith in absurd z
+body-proper : (σ : Settings) (k : ℕ) (b : List ℕ) → ProperDecoded (decodeBody σ k b)
+unfolding bodyTests commandIn
+body-proper σ k b =
+    subst ProperDecoded (sym (decoded-rows σ b kinds k))
+    (at-rows ProperDecoded (λ r. decodedAs (tested (r .tests σ b)) (r .command b)) (Decoded.Command Command.Reset) kinds tt (
+      tt,
+      (
+        rule-test b (labelRule b) (both-and (isOperator (orIdentity (operatorAt b))) (isNamed (labelRule b))) σ,
+        (
+          one-test (isNamed (bothRule b)) 6 (Command.Add (bothRule b)) (λ t. t),
+          (
+            rule-test b (linkRule b) (both-and (isOperator (orIdentity (operatorAt b))) (isNamed (linkRule b))) σ,
+            (
+              one-test (isNamed (viaRule b)) 6 (Command.Add (viaRule b)) (λ t. t),
+              (
+                mark-test (labelMark b) (Command.Put (labelMark b)) (λ t. t) σ,
+                (
+                  mark-test (linkMark b) (Command.Put (linkMark b)) (λ t. t) σ,
+                  (
+                    mark-test (labelMark b) (Command.Take (labelMark b)) (λ t. t) σ,
+                    (
+                      mark-test (linkMark b) (Command.Take (linkMark b)) (λ t. t) σ,
+                      (
+                        question-test (labelQuestion b) σ,
+                        (
+                          question-test (linkQuestion b) σ,
+                          (question-test (spansQuestion b) σ, tt),
+                        ),
+                      ),
+                    ),
+                  ),
+                ),
+              ),
+            ),
+          ),
+        ),
+      ),
+    ) k)
 
-mark-left : (m : Mark) → lowest (markTests m) ≡ 0 → T (isMark m)
-mark-left m = go (isMarkable (m .atom)) (isDepth (m .depth))
-  where
-    go : (p q : Bool) → lowest (test (not p) 6 ∷ test (not q) 8 ∷ []) ≡ 0 → T (p && q)
-    go true true e = tt
-    go true false e = let z : ⊥ = omega arith in absurd z
-    go false q e = let z : ⊥ = omega arith in absurd z
+pub decode-proper : (σ : Settings) (k : ℕ) (b : List ℕ) (c : Command) → decodeBody σ k b ≡ Decoded.Command c → T (Proper c)
+decode-proper σ k b c e = subst ProperDecoded e (body-proper σ k b)
 
-put-proper : (m : Mark) → ProperDecoded (decodedBy (markTests m) (Command.Put m))
-put-proper m = when-none (lowest (markTests m)) (Command.Put m) (mark-left m)
+used-proper : (d : Decoded) (b : List ℕ) (u : ℕ) → ProperDecoded d → ProperParsed (parsedBody d b u)
+used-proper (Decoded.Command c) b u h = h
+used-proper (Decoded.Refused n) b u h = tt
 
-take-proper : (m : Mark) → ProperDecoded (decodedBy (markTests m) (Command.Take m))
-take-proper m = when-none (lowest (markTests m)) (Command.Take m) (mark-left m)
-
-ask-proper : (x : Atom) (c : Command) → (T (isStatement x) → T (Proper c)) → ProperDecoded (decodedBy (askTests x) c)
-ask-proper x c h = when-none (lowest (askTests x)) c (λ e. h (names-left (isStatement x) e))
-
--- a rule with an operator, in names that pass p
-operator-rule : (p : Bool) (b : List ℕ) (k : Operator → Command) → ((o : Operator) → T (isOperator o && p) → T (Proper (k o))) → ProperDecoded (decodedBy (test (not p) 6 ∷ test (isInvalid (operatorIn b)) 7 ∷ []) (k (orBetween (operatorIn b))))
-operator-rule p b k h =
-    when-none (lowest (test (not p) 6 ∷ test (isInvalid (operatorIn b)) 7 ∷ [])) (k (orBetween (operatorIn b)))
-    (λ e. h (orBetween (operatorIn b)) (rule-left p (operatorIn b) (read-proper (getD b 0 0) (little 4 b 1)) e))
-
--- and one without
-plain-rule : (p : Bool) (c : Command) → (T p → T (Proper c)) → ProperDecoded (decodedBy (test (not p) 6 ∷ []) c)
-plain-rule p c h = when-none (lowest (test (not p) 6 ∷ [])) c (λ e. h (names-left p e))
-
-body-proper : (k : ℕ) (b : List ℕ) → ProperDecoded (decodeBody k b)
-unfolding decodeBody
-body-proper k b =
-    let x : ℕ → ℕ = λ (i : ℕ). getD b i 0 in
-    either ProperDecoded (eqb k 1) tt
-    (either ProperDecoded (eqb k 2) (operator-rule (isLeft (x 5) && isConcluded (x 6)) b (λ (o : Operator). Command.Add (Label o (x 5) (x 6))) (λ o t. t))
-    (either ProperDecoded (eqb k 3) (plain-rule (isLeft (x 0) && (isLeft (x 1) && isConcluded (x 2))) (Command.Add (Both (x 0) (x 1) (x 2))) (λ t. t))
-    (either ProperDecoded (eqb k 4) (operator-rule (isKind (x 5) && isKind (x 6)) b (λ (o : Operator). Command.Add (Link o (x 5) (x 6))) (λ o t. t))
-    (either ProperDecoded (eqb k 5) (plain-rule (isKind (x 0) && (isLeft (x 1) && isConcluded (x 2))) (Command.Add (Via (x 0) (x 1) (x 2))) (λ t. t))
-    (either ProperDecoded (eqb k 6) (put-proper (labelMark b))
-    (either ProperDecoded (eqb k 7) (put-proper (linkMark b))
-    (either ProperDecoded (eqb k 8) (take-proper (labelMark b))
-    (either ProperDecoded (eqb k 9) (take-proper (linkMark b))
-    (either ProperDecoded (eqb k 10) (ask-proper (Has (x 0) (x 1)) (Command.Ask (Has (x 0) (x 1)) (signed64At b 2)) (λ t. t))
-    (either ProperDecoded (eqb k 11) (ask-proper (Linked (x 0) (x 1) (x 2)) (Command.Ask (Linked (x 0) (x 1) (x 2)) (signed64At b 3)) (λ t. t))
-    (ask-proper (Has (x 0) (x 1)) (Command.Spans (x 0) (x 1)) (λ t. t))))))))))))
-
-used-proper : (d : Decoded) (u : ℕ) → ProperDecoded d → ProperParsed (withUsed d u)
-used-proper (Decoded.Command c) u h = h
-used-proper (Decoded.Refused n) u h = tt
-
-parsed-proper : (s : List ℕ) → ProperParsed (parse s)
-unfolding parse
-parsed-proper s =
-    either ProperParsed (eqb (length s) 0) tt
-    (either ProperParsed (eqb (lowest (frameTests s)) 0) (used-proper (decodeBody (kindField s) (bodyOf s)) (lengthField s + 2) (body-proper (kindField s) (bodyOf s))) tt)
+parsed-proper : (σ : Settings) (s : List ℕ) (f : Framed) → ProperParsed (parsedFrame σ s f)
+parsed-proper σ s Framed.Nothing = tt
+parsed-proper σ s (Framed.Refused n u) = tt
+parsed-proper σ s (Framed.Record k u) = used-proper (decodeBody σ k (bodyOf s)) (bodyOf s) u (body-proper σ k (bodyOf s))
 
 -- whatever the input, a command that is read from it is in range
-pub parse-proper : (s : List ℕ) (c : Command) (u : ℕ) → parse s ≡ Parsed.Command c u → T (Proper c)
-parse-proper s c u e = subst ProperParsed e (parsed-proper s)
+pub parse-proper : (σ : Settings) (s : List ℕ) (c : Command) (b : List ℕ) (u : ℕ) → parse σ s ≡ Parsed.Record c b u → T (Proper c)
+unfolding parse
+parse-proper σ s c b u e = subst ProperParsed e (parsed-proper σ s (framed s))
 
 -- ---- what is in range reads back
 
@@ -169,8 +217,7 @@ isChange Command.Reset = true
 isChange (Command.Add ρ) = isRule ρ
 isChange (Command.Put m) = isMark m
 isChange (Command.Take m) = isMark m
-isChange (Command.Ask x i) = false
-isChange (Command.Spans a A) = false
+isChange (Command.Ask q) = false
 
 -- 01, Records: the kind of a rule
 abbrev pub ruleKind : Rule → ℕ
@@ -205,65 +252,46 @@ abbrev pub markBody : Atom → ℤ → List ℕ
 markBody (Has a A) z = a ∷ A ∷ bytesOfSigned32 z
 markBody (Linked a r b) z = a ∷ r ∷ b ∷ bytesOfSigned32 z
 
--- a change as a record; a question has none here
-abbrev pub write : Command → List ℕ
-write Command.Reset = recordBytes 1 []
-write (Command.Add ρ) = recordBytes (ruleKind ρ) (ruleBody ρ)
-write (Command.Put m) = recordBytes (putKind (m .atom)) (markBody (m .atom) (m .depth))
-write (Command.Take m) = recordBytes (takeKind (m .atom)) (markBody (m .atom) (m .depth))
-write (Command.Ask x i) = []
-write (Command.Spans a A) = []
+-- the kind and the body of a change; a question has none here
+abbrev pub changeKind : Command → ℕ
+changeKind Command.Reset = 1
+changeKind (Command.Add ρ) = ruleKind ρ
+changeKind (Command.Put m) = putKind (m .atom)
+changeKind (Command.Take m) = takeKind (m .atom)
+changeKind (Command.Ask q) = 0
 
--- a body that decodes to a command, in its frame
-parse-as :
-    (c : Command) (k : ℕ) (b : List ℕ) → length b + 2 ≡ lengthOf k → k < 65536 → length b + 2 < 65536 → decodeBody k b ≡ Decoded.Command c →
-    parse (recordBytes k b) ≡ Parsed.Command c (length (recordBytes k b))
-parse-as c k b known small short e = parse-record k b known small short ∙ ap (λ (d : Decoded). withUsed d (length (recordBytes k b))) e
+abbrev pub changeBody : Command → List ℕ
+changeBody Command.Reset = []
+changeBody (Command.Add ρ) = ruleBody ρ
+changeBody (Command.Put m) = markBody (m .atom) (m .depth)
+changeBody (Command.Take m) = markBody (m .atom) (m .depth)
+changeBody (Command.Ask q) = []
+
+-- a change as a record
+abbrev pub write : Command → List ℕ
+write c = recordBytes (changeKind c) (changeBody c)
 
 -- where the tests pass, the command is given
-names-pass : (p : Bool) (c : Command) → T p → decodedBy (test (not p) 6 ∷ []) c ≡ Decoded.Command c
-names-pass true c t = refl
-names-pass false c t = absurd t
+named-passes : (p : Bool) (c : Command) → T p → decodedAs (tested (test (not p) 6 ∷ [])) c ≡ Decoded.Command c
+named-passes true c t = refl
+named-passes false c t = absurd t
 
-mark-passes : (p q : Bool) (c : Command) → T (p && q) → decodedBy (test (not p) 6 ∷ test (not q) 8 ∷ []) c ≡ Decoded.Command c
+mark-passes : (p q : Bool) (c : Command) → T (p && q) → decodedAs (tested (test (not p) 6 ∷ test (not q) 8 ∷ [])) c ≡ Decoded.Command c
 mark-passes true true c t = refl
 mark-passes true false c t = absurd t
 mark-passes false q c t = absurd t
 
-rule-passes :
+operator-passes :
     (p : Bool) (r : OperatorRead) (o : Operator) (k : Operator → Command) → T p → r ≡ Valid o →
-    decodedBy (test (not p) 6 ∷ test (isInvalid r) 7 ∷ []) (k (orBetween r)) ≡ Decoded.Command (k o)
-rule-passes true r o k t e = ap (λ (x : OperatorRead). decodedBy (test false 6 ∷ test (isInvalid x) 7 ∷ []) (k (orBetween x))) e
-rule-passes false r o k t e = absurd t
+    decodedAs (tested (test (not p) 6 ∷ test (isInvalid r) 7 ∷ [])) (k (orIdentity r)) ≡ Decoded.Command (k o)
+operator-passes true r o k t e = ap (λ (x : OperatorRead). decodedAs (tested (test false 6 ∷ test (isInvalid x) 7 ∷ [])) (k (orIdentity x))) e
+operator-passes false r o k t e = absurd t
 
--- an operator reads back from its code and distance
-if-read : (b : Bool) (o : Operator) → T b → readIf b o ≡ Valid o
-if-read true o t = refl
-if-read false o t = absurd t
-
-pub operator-read : (o : Operator) → T (isOperator o) → operatorOf (codeOf o) (distanceOf o) ≡ Valid o
-operator-read (Within n) t = if-read (isDistance n) (Within n) t
-operator-read Between t = refl
-operator-read Above t = refl
-operator-read Below t = refl
-operator-read Anywhere t = refl
-
-distance-fits : (o : Operator) → T (isOperator o) → distanceOf o < 256 ^ 4
-distance-fits (Within n) t = omega (arith, leb→le n WITHIN-MOST (and-both (leb 1 n) (leb n WITHIN-MOST) t .1))
-distance-fits Between t = omega arith
-distance-fits Above t = omega arith
-distance-fits Below t = omega arith
-distance-fits Anywhere t = omega arith
-
-operator-in : (o : Operator) (x y : ℕ) → T (isOperator o) → operatorIn (operatorBytes o ++ (x ∷ y ∷ [])) ≡ Valid o
+operator-in : (o : Operator) (x y : ℕ) → T (isOperator o) → operatorAt (operatorBytes o ++ (x ∷ y ∷ [])) ≡ Valid o
 unfolding little bytes
 operator-in o x y t = ap (operatorOf (codeOf o)) (little-bytes 4 (distanceOf o) (distance-fits o t)) ∙ operator-read o t
 
--- and a depth from its bytes
-depth-fits : (z : ℤ) → T (isDepth z) → SFits w32 z
-depth-fits (pos n) t = record { sfits = omega (arith, leb→le n 200_000 (and-both (leZ SHALLOWEST (pos n)) (leZ (pos n) DEEPEST) t .1)) }
-depth-fits (negsuc n) t = record { sfits = omega (arith, leb→le n 9_999 (and-both (leZ SHALLOWEST (negsuc n)) (leZ (negsuc n) DEEPEST) t .0)) }
-
+-- a depth from its bytes
 depth-read : (z : ℤ) → SFits w32 z → toZ w32 (little 4 (bytesOfSigned32 z) 0) ≡ z
 depth-read z f = ap (toZ w32) (little-bytes 4 (ofZ w32 z) (ofZ-fits w32 z f .fits)) ∙ toZ-ofZ w32 z f
 
@@ -281,49 +309,79 @@ unfolding little bytes
 mark-in (Has a A) z f = ap (markOf (Has a A)) (depth-read z f)
 mark-in (Linked a r b) z f = ap (markOf (Linked a r b)) (depth-read z f)
 
-add-read : (ρ : Rule) → T (isRule ρ) → parse (write (Command.Add ρ)) ≡ Parsed.Command (Command.Add ρ) (length (write (Command.Add ρ)))
-unfolding lengthOf bytes decodeBody
-add-read (Label o A B) t =
-    let h = and-both (isOperator o) (isLeft A && isConcluded B) t in
-    parse-as (Command.Add (Label o A B)) 2 (ruleBody (Label o A B)) refl (omega arith) (omega arith)
-    (rule-passes (isLeft A && isConcluded B) (operatorIn (ruleBody (Label o A B))) o (λ (x : Operator). Command.Add (Label x A B)) (h .1) (operator-in o A B (h .0)))
-add-read (Both A B C) t =
-    parse-as (Command.Add (Both A B C)) 3 (ruleBody (Both A B C)) refl (omega arith) (omega arith)
-    (names-pass (isLeft A && (isLeft B && isConcluded C)) (Command.Add (Both A B C)) t)
-add-read (Link o r s) t =
-    let h = and-both (isOperator o) (isKind r && isKind s) t in
-    parse-as (Command.Add (Link o r s)) 4 (ruleBody (Link o r s)) refl (omega arith) (omega arith)
-    (rule-passes (isKind r && isKind s) (operatorIn (ruleBody (Link o r s))) o (λ (x : Operator). Command.Add (Link x r s)) (h .1) (operator-in o r s (h .0)))
-add-read (Via r A B) t =
-    parse-as (Command.Add (Via r A B)) 5 (ruleBody (Via r A B)) refl (omega arith) (omega arith)
-    (names-pass (isKind r && (isLeft A && isConcluded B)) (Command.Add (Via r A B)) t)
+module _ (σ : Settings) where
+  rule-decodes : (ρ : Rule) → T (isRule ρ) → decodeBody σ (ruleKind ρ) (ruleBody ρ) ≡ Decoded.Command (Command.Add ρ)
+  unfolding bytes bodyTests commandIn
+  rule-decodes (Label o A B) t =
+      let h = and-both (isOperator o) (isNamed (Label o A B)) t in
+      operator-passes (isNamed (Label o A B)) (operatorAt (ruleBody (Label o A B))) o (λ (x : Operator). Command.Add (Label x A B)) (h .1) (operator-in o A B (h .0))
+  rule-decodes (Both A B C) t = named-passes (isNamed (Both A B C)) (Command.Add (Both A B C)) t
+  rule-decodes (Link o r s) t =
+      let h = and-both (isOperator o) (isNamed (Link o r s)) t in
+      operator-passes (isNamed (Link o r s)) (operatorAt (ruleBody (Link o r s))) o (λ (x : Operator). Command.Add (Link x r s)) (h .1) (operator-in o r s (h .0))
+  rule-decodes (Via r A B) t = named-passes (isNamed (Via r A B)) (Command.Add (Via r A B)) t
 
--- a mark under a kind n whose body is a mark, and what the command does with it
-mark-read :
-    (k : Mark → Command) (n : ℕ) (x : Atom) (z : ℤ) → let b = markBody x z in
-    length b + 2 ≡ lengthOf n → n < 65536 → length b + 2 < 65536 → decodeBody n b ≡ decodedBy (markTests (markIn x b)) (k (markIn x b)) → T (isMark (markOf x z)) →
-    parse (recordBytes n b) ≡ Parsed.Command (k (markOf x z)) (length (recordBytes n b))
-mark-read k n x z known small short e t =
-    let f : SFits w32 z = depth-fits z (and-both (isMarkable x) (isDepth z) t .1) in
-    parse-as (k (markOf x z)) n (markBody x z) known small short
-    (e ∙ ap (λ (m : Mark). decodedBy (markTests m) (k m)) (mark-in x z f) ∙ mark-passes (isMarkable x) (isDepth z) (k (markOf x z)) t)
+  -- a mark under a kind whose body is a mark, and what the command does with it
+  mark-decodes :
+      (k : Mark → Command) (n : ℕ) (x : Atom) (z : ℤ) → let b = markBody x z in
+      decodeBody σ n b ≡ decodedAs (tested (markTests σ (markIn x b))) (k (markIn x b)) → T (isMark (markOf x z)) →
+      decodeBody σ n b ≡ Decoded.Command (k (markOf x z))
+  mark-decodes k n x z e t =
+      let f : SFits w32 z = depth-fits z (and-both (isMarkable x) (isDepth z) t .1) in
+      e ∙ ap (λ (m : Mark). decodedAs (tested (markTests σ m)) (k m)) (mark-in x z f) ∙ mark-passes (isMarkable x) (isDepth z) (k (markOf x z)) t
 
-put-read : (x : Atom) (z : ℤ) → T (isMark (markOf x z)) → parse (write (Command.Put (markOf x z))) ≡ Parsed.Command (Command.Put (markOf x z)) (length (write (Command.Put (markOf x z))))
-unfolding lengthOf bytes decodeBody
-put-read (Has a A) z t = mark-read (λ (m : Mark). Command.Put m) 6 (Has a A) z refl (omega arith) (omega arith) refl t
-put-read (Linked a r b) z t = mark-read (λ (m : Mark). Command.Put m) 7 (Linked a r b) z refl (omega arith) (omega arith) refl t
+  put-decodes : (x : Atom) (z : ℤ) → T (isMark (markOf x z)) → decodeBody σ (putKind x) (markBody x z) ≡ Decoded.Command (Command.Put (markOf x z))
+  unfolding bodyTests commandIn
+  put-decodes (Has a A) z t = mark-decodes (λ (m : Mark). Command.Put m) 6 (Has a A) z refl t
+  put-decodes (Linked a r b) z t = mark-decodes (λ (m : Mark). Command.Put m) 7 (Linked a r b) z refl t
 
-take-read : (x : Atom) (z : ℤ) → T (isMark (markOf x z)) → parse (write (Command.Take (markOf x z))) ≡ Parsed.Command (Command.Take (markOf x z)) (length (write (Command.Take (markOf x z))))
-unfolding lengthOf bytes decodeBody
-take-read (Has a A) z t = mark-read (λ (m : Mark). Command.Take m) 8 (Has a A) z refl (omega arith) (omega arith) refl t
-take-read (Linked a r b) z t = mark-read (λ (m : Mark). Command.Take m) 9 (Linked a r b) z refl (omega arith) (omega arith) refl t
+  take-decodes : (x : Atom) (z : ℤ) → T (isMark (markOf x z)) → decodeBody σ (takeKind x) (markBody x z) ≡ Decoded.Command (Command.Take (markOf x z))
+  unfolding bodyTests commandIn
+  take-decodes (Has a A) z t = mark-decodes (λ (m : Mark). Command.Take m) 8 (Has a A) z refl t
+  take-decodes (Linked a r b) z t = mark-decodes (λ (m : Mark). Command.Take m) 9 (Linked a r b) z refl t
+
+  change-decodes : (c : Command) → T (isChange c) → decodeBody σ (changeKind c) (changeBody c) ≡ Decoded.Command c
+  unfolding bodyTests commandIn
+  change-decodes Command.Reset t = refl
+  change-decodes (Command.Add ρ) t = rule-decodes ρ t
+  change-decodes (Command.Put m) t = put-decodes (m .atom) (m .depth) t
+  change-decodes (Command.Take m) t = take-decodes (m .atom) (m .depth) t
+  change-decodes (Command.Ask q) t = absurd t
+
+-- a body that has a length of its kind, below the largest
+record Fitting (k : ℕ) (b : List ℕ) : Type 0 where
+  allowed : T (allows (lengthsOf k) (length b + 2))
+  small : k < 65536
+  short : length b + 2 < 65536
+
+fitting-rule : (ρ : Rule) → Fitting (ruleKind ρ) (ruleBody ρ)
+unfolding lengthsOf bytes
+fitting-rule (Label o A B) = record { allowed = tt; small = omega arith; short = omega arith }
+fitting-rule (Both A B C) = record { allowed = tt; small = omega arith; short = omega arith }
+fitting-rule (Link o r s) = record { allowed = tt; small = omega arith; short = omega arith }
+fitting-rule (Via r A B) = record { allowed = tt; small = omega arith; short = omega arith }
+
+fitting-put : (x : Atom) (z : ℤ) → Fitting (putKind x) (markBody x z)
+unfolding lengthsOf bytes
+fitting-put (Has a A) z = record { allowed = tt; small = omega arith; short = omega arith }
+fitting-put (Linked a r b) z = record { allowed = tt; small = omega arith; short = omega arith }
+
+fitting-take : (x : Atom) (z : ℤ) → Fitting (takeKind x) (markBody x z)
+unfolding lengthsOf bytes
+fitting-take (Has a A) z = record { allowed = tt; small = omega arith; short = omega arith }
+fitting-take (Linked a r b) z = record { allowed = tt; small = omega arith; short = omega arith }
+
+fitting : (c : Command) → T (isChange c) → Fitting (changeKind c) (changeBody c)
+unfolding lengthsOf
+fitting Command.Reset t = record { allowed = tt; small = omega arith; short = omega arith }
+fitting (Command.Add ρ) t = fitting-rule ρ
+fitting (Command.Put m) t = fitting-put (m .atom) (m .depth)
+fitting (Command.Take m) t = fitting-take (m .atom) (m .depth)
+fitting (Command.Ask q) t = absurd t
 
 -- a change in range, written, reads back, and all of its bytes are used
-pub parse-write : (c : Command) → T (isChange c) → parse (write c) ≡ Parsed.Command c (length (write c))
-unfolding lengthOf decodeBody
-parse-write Command.Reset t = parse-as Command.Reset 1 [] refl (omega arith) (omega arith) refl
-parse-write (Command.Add ρ) t = add-read ρ t
-parse-write (Command.Put m) t = put-read (m .atom) (m .depth) t
-parse-write (Command.Take m) t = take-read (m .atom) (m .depth) t
-parse-write (Command.Ask x i) t = absurd t
-parse-write (Command.Spans a A) t = absurd t
+pub parse-write : (σ : Settings) (c : Command) → T (isChange c) → parse σ (write c) ≡ Parsed.Record c (changeBody c) (length (write c))
+parse-write σ c t =
+    let f = fitting c t in
+    parse-record σ (changeKind c) (changeBody c) (f .allowed) (f .small) (f .short)
+    ∙ ap (λ (d : Decoded). parsedBody d (changeBody c) (length (write c))) (change-decodes σ c t)

@@ -1,20 +1,45 @@
-// Records: the frame, and the decoder of each body.
+// Records: the frame, the table of kinds, and the decoder of each body.
 ghost use mathlib.Core.Path.{_≡_};
-ghost use mathlib.Core.Bool.{cond, _&&_};
-ghost use Prim.Native.Nat.{_+_, _≤_};
-ghost use lib.Dec.{eqb};
+ghost use mathlib.Core.Bool.{not};
+ghost use mathlib.Core.List.{[], _∷_};
+ghost use Prim.Native.Nat.{_+_};
+ghost use lib.Dec.{T};
 ghost use lib.ListN.{length};
-ghost use Rattle.terms.specs.Limits.{isItem, isKind, isLeft, isConcluded, isMarked, isLabel, isDepth};
-ghost use Rattle.terms.specs.Held.{isMarkable, isStatement};
-ghost use Rattle.terms.specs.Refusals.{lowest};
-ghost use Rattle.records.specs.declared.Decoded.the-variants as Read;
-ghost use Rattle.records.specs.Records.{lengthOf, orBetween, labelMark, linkMark, markTests, labelRule, bothRule, linkRule, viaRule, putOf, takeOf, askOf, spansOf, decodeBody, withUsed, parse as parsedAs};
-ghost use Rattle.records.specs.Used.{usedIn};
+ghost use Rattle.terms.specs.Held.{isNamed};
+ghost use Rattle.terms.specs.Refusals.{test, tested as testedBy, orElse};
+ghost use Rattle.records.specs.declared.Command.the-variants as To;
+ghost use Rattle.records.specs.Records.{
+  operatorAt,
+  labelRule,
+  bothRule,
+  linkRule,
+  viaRule,
+  labelMark,
+  linkMark,
+  labelQuestion,
+  linkQuestion,
+  spansQuestion,
+  markTests,
+  asRule,
+  asOperatorRule,
+  asPut,
+  asTake,
+  asQuestion,
+  allows,
+  lengthsOf,
+  kindTests,
+  decodedAs,
+  decodeBody,
+  framed,
+};
+ghost use Rattle.records.specs.Frame.{framedAs};
 use terms::Atom;
 use terms::Mark;
 use terms::Operator;
-use terms::OperatorRead;
+use terms::Question;
 use terms::Rule;
+use terms::Settings;
+use terms::Tested;
 
 // What a record asks for.
 pub enum Command {
@@ -22,8 +47,14 @@ pub enum Command {
     Add(Rule),
     Put(Mark),
     Take(Mark),
-    Ask(Atom, i64),
-    Spans(u8, u8),
+    Ask(Question),
+}
+
+// The lengths that a kind's records may have; unknown for a kind that there is not.
+pub enum Lengths {
+    Exactly(usize),
+    AtLeast(usize),
+    Unknown,
 }
 
 // A body, read: a command, or the refusal's number.
@@ -32,211 +63,129 @@ pub enum Decoded {
     Refused(u8),
 }
 
-// What is left of the input, read: nothing; a refusal's number and the bytes used; a command and the bytes used.
-pub enum Parsed {
+// The frame of what is left: nothing; a refusal's number and the bytes used; a kind and the bytes of its record.
+pub enum Framed {
     Nothing,
     Refused(u8, usize),
-    Command(Command, usize),
+    Record(u16, usize),
 }
 
-// The length that the kind's records have, 0 for a kind that there is not.
-fn length_of(kind: u16) -> usize
-    ensures { λ r. ⌜ r ≡ lengthOf kind ⌝ }
+// The table of kinds: lengths.
+fn lengths_of(kind: u16) -> Lengths
+    ensures { λ r. ⌜ r ≡ lengthsOf kind ⌝ }
 {
     match kind {
-        1 => 2,
-        2 => 9,
-        3 => 5,
-        4 => 9,
-        5 => 5,
-        6 => 8,
-        7 => 9,
-        8 => 8,
-        9 => 9,
-        10 => 12,
-        11 => 13,
-        12 => 4,
-        _ => 0,
+        1 => Lengths::Exactly(2),
+        2 => Lengths::Exactly(9),
+        3 => Lengths::Exactly(5),
+        4 => Lengths::Exactly(9),
+        5 => Lengths::Exactly(5),
+        6 => Lengths::Exactly(8),
+        7 => Lengths::Exactly(9),
+        8 => Lengths::Exactly(8),
+        9 => Lengths::Exactly(9),
+        10 => Lengths::Exactly(12),
+        11 => Lengths::Exactly(13),
+        12 => Lengths::Exactly(4),
+        _ => Lengths::Unknown,
     }
 }
 
-fn is_item(item: u8) -> bool
-    ensures { λ r. ⌜ r ≡ isItem item ⌝ }
-{
-    item < terms::ITEMS
-}
-
-fn is_kind(kind: u8) -> bool
-    ensures { λ r. ⌜ r ≡ isKind kind ⌝ }
-{
-    kind < terms::KINDS
-}
-
-fn is_left(label: u8) -> bool
-    ensures { λ r. ⌜ r ≡ isLeft label ⌝ }
-{
-    label < terms::NEVER
-}
-
-fn is_concluded(label: u8) -> bool
-    ensures { λ r. ⌜ r ≡ isConcluded label ⌝ }
-{
-    if terms::EVERY < label {
-        return label < terms::LABELS;
-    }
-    false
-}
-
-fn is_marked(label: u8) -> bool
-    ensures { λ r. ⌜ r ≡ isMarked label ⌝ }
-{
-    if terms::EVERY < label {
-        return label < terms::NEVER;
-    }
-    false
-}
-
-fn is_label(label: u8) -> bool
-    ensures { λ r. ⌜ r ≡ isLabel label ⌝ }
-{
-    label < terms::LABELS
-}
-
-fn is_depth(depth: i32) -> bool
-    ensures { λ r. ⌜ r ≡ isDepth depth ⌝ }
-{
-    if terms::SHALLOWEST <= depth {
-        return depth <= terms::DEEPEST;
-    }
-    false
-}
-
-// Both of two tests, so that the decoders have no branch.
-fn both(first: bool, second: bool) -> bool
-    ensures { λ r. ⌜ r ≡ (first && second) ⌝ }
-{
-    if first {
-        return second;
-    }
-    false
-}
-
-fn is_markable(atom: Atom) -> bool
-    ensures { λ r. ⌜ r ≡ isMarkable atom ⌝ }
-{
-    match atom {
-        Atom::Has(item, label) => both(is_item(item), is_marked(label)),
-        Atom::Linked(from, kind, to) => both(is_item(from), both(is_kind(kind), is_item(to))),
+impl Lengths {
+    // A known kind, and a length that its records may have.
+    fn tested(self, length: usize) -> Tested
+        ensures { λ r. ⌜ r ≡ testedBy (kindTests self length) ⌝ }
+    {
+        match self {
+            Lengths::Exactly(n) => Tested::unless(length == n, 5),
+            Lengths::AtLeast(n) => Tested::unless(n <= length, 5),
+            Lengths::Unknown => Tested::Refused(4),
+        }
     }
 }
 
-fn is_statement(atom: Atom) -> bool
-    ensures { λ r. ⌜ r ≡ isStatement atom ⌝ }
+// The command where no test applies.
+fn decoded_as(tested: Tested, command: Command) -> Decoded
+    ensures { λ r. ⌜ r ≡ decodedAs tested command ⌝ }
 {
-    match atom {
-        Atom::Has(item, label) => both(is_item(item), is_label(label)),
-        Atom::Linked(from, kind, to) => both(is_item(from), both(is_kind(kind), is_item(to))),
+    match tested {
+        Tested::Passed => Decoded::Command(command),
+        Tested::Refused(number) => Decoded::Refused(number),
     }
 }
 
-// The number of a test that has to pass, 0 where it does.
-fn unless(passes: bool, number: u8) -> u8
-    ensures { λ r. ⌜ r ≡ cond passes 0 number ⌝ }
+// A rule to add: its names under the settings, then what its operator came to.
+fn add(settings: Settings, rule: Rule, operator: Tested) -> Decoded
+    ensures { λ r. ⌜ r ≡ decodedAs (orElse (testedBy (test (not (isNamed rule)) 6 ∷ [])) operator) (To.Add rule) ⌝ }
 {
-    if passes {
-        return 0;
-    }
-    number
+    let names = Tested::unless(rule.is_named(), 6);
+    decoded_as(names.or(operator), Command::Add(rule))
 }
 
-// The first number that applies, 0 for none.
-fn first_of(first: u8, second: u8) -> u8
-    ensures { λ r. ⌜ r ≡ cond (eqb first 0) second first ⌝ }
+// The tests of a mark to put or to take.
+fn mark_tested(settings: Settings, mark: Mark) -> Tested
+    ensures { λ r. ⌜ r ≡ testedBy (markTests settings mark) ⌝ }
 {
-    if first == 0 {
-        return second;
-    }
-    first
+    let atom = mark.atom;
+    let depth = mark.depth;
+    let names = Tested::unless(atom.is_markable(), 6);
+    names.or(Tested::unless(terms::is_depth(depth), 8))
 }
 
-// The command where no number applies.
-fn decoded_by(number: u8, command: Command) -> Decoded
-    ensures { λ r. ⌜ r ≡ cond (eqb number 0) (Read.Command command) (Read.Refused number) ⌝ }
+fn put(settings: Settings, mark: Mark) -> Decoded
+    ensures { λ r. ⌜ r ≡ asPut settings mark ⌝ }
 {
-    if number == 0 {
-        return Decoded::Command(command);
-    }
-    Decoded::Refused(number)
+    decoded_as(mark_tested(settings, mark), Command::Put(mark))
 }
 
-// The operator, and where there is none any: the body is then refused.
-fn or_between(read: OperatorRead) -> Operator
-    ensures { λ r. ⌜ r ≡ orBetween read ⌝ }
+fn take(settings: Settings, mark: Mark) -> Decoded
+    ensures { λ r. ⌜ r ≡ asTake settings mark ⌝ }
 {
-    match read {
-        OperatorRead::Valid(operator) => operator,
-        OperatorRead::Invalid => Operator::BETWEEN,
-    }
+    decoded_as(mark_tested(settings, mark), Command::Take(mark))
 }
 
-fn label_rule(body: &[u8]) -> Decoded
-    requires { ⌜ length (now body) ≡ 7 ⌝ }
-    ensures { λ r. ⌜ r ≡ labelRule (now (body .entry)) ⌝ }
+// A question; the span call beside the records uses it too.
+pub fn ask(settings: Settings, question: Question) -> Decoded
+    ensures { λ r. ⌜ r ≡ asQuestion settings question ⌝ }
 {
-    let left = body[5];
-    let concluded = body[6];
-    let read = Operator::new(body[0], codec::u32_at(body, 1));
-    let names = unless(both(is_left(left), is_concluded(concluded)), 6);
-    let operator = read.number();
-    let number = first_of(names, operator);
-    decoded_by(
-        number,
-        Command::Add(Rule::Label(or_between(read), left, concluded)),
+    decoded_as(
+        Tested::unless(question.in_range(), 6),
+        Command::Ask(question),
     )
 }
 
-fn both_rule(body: &[u8]) -> Decoded
-    requires { ⌜ length (now body) ≡ 3 ⌝ }
-    ensures { λ r. ⌜ r ≡ bothRule (now (body .entry)) ⌝ }
-{
-    let one = body[0];
-    let two = body[1];
-    let concluded = body[2];
-    let names = unless(
-        both(is_left(one), both(is_left(two), is_concluded(concluded))),
-        6,
-    );
-    decoded_by(names, Command::Add(Rule::Both(one, two, concluded)))
-}
-
-fn link_rule(body: &[u8]) -> Decoded
+fn label_rule(settings: Settings, body: &[u8]) -> Decoded
     requires { ⌜ length (now body) ≡ 7 ⌝ }
-    ensures { λ r. ⌜ r ≡ linkRule (now (body .entry)) ⌝ }
+    ensures { λ r. ⌜ r ≡ asOperatorRule settings (operatorAt (now (body .entry))) (labelRule (now (body .entry))) ⌝ }
 {
-    let left = body[5];
-    let concluded = body[6];
     let read = Operator::new(body[0], codec::u32_at(body, 1));
-    let kinds = unless(both(is_kind(left), is_kind(concluded)), 6);
-    let operator = read.number();
-    let number = first_of(kinds, operator);
-    decoded_by(
-        number,
-        Command::Add(Rule::Link(or_between(read), left, concluded)),
-    )
+    let rule = Rule::Label(read.or_identity(), body[5], body[6]);
+    add(settings, rule, read.tested())
 }
 
-fn via_rule(body: &[u8]) -> Decoded
+fn both_rule(settings: Settings, body: &[u8]) -> Decoded
     requires { ⌜ length (now body) ≡ 3 ⌝ }
-    ensures { λ r. ⌜ r ≡ viaRule (now (body .entry)) ⌝ }
+    ensures { λ r. ⌜ r ≡ asRule settings (bothRule (now (body .entry))) ⌝ }
 {
-    let kind = body[0];
-    let left = body[1];
-    let concluded = body[2];
-    let names = unless(
-        both(is_kind(kind), both(is_left(left), is_concluded(concluded))),
-        6,
-    );
-    decoded_by(names, Command::Add(Rule::Via(kind, left, concluded)))
+    let rule = Rule::Both(body[0], body[1], body[2]);
+    add(settings, rule, Tested::Passed)
+}
+
+fn link_rule(settings: Settings, body: &[u8]) -> Decoded
+    requires { ⌜ length (now body) ≡ 7 ⌝ }
+    ensures { λ r. ⌜ r ≡ asOperatorRule settings (operatorAt (now (body .entry))) (linkRule (now (body .entry))) ⌝ }
+{
+    let read = Operator::new(body[0], codec::u32_at(body, 1));
+    let rule = Rule::Link(read.or_identity(), body[5], body[6]);
+    add(settings, rule, read.tested())
+}
+
+fn via_rule(settings: Settings, body: &[u8]) -> Decoded
+    requires { ⌜ length (now body) ≡ 3 ⌝ }
+    ensures { λ r. ⌜ r ≡ asRule settings (viaRule (now (body .entry))) ⌝ }
+{
+    let rule = Rule::Via(body[0], body[1], body[2]);
+    add(settings, rule, Tested::Passed)
 }
 
 fn label_mark(body: &[u8]) -> Mark
@@ -259,103 +208,107 @@ fn link_mark(body: &[u8]) -> Mark
     }
 }
 
-// The number of the first test of a mark that applies, 0 for none.
-fn mark_number(mark: Mark) -> u8
-    ensures { λ r. ⌜ r ≡ lowest (markTests mark) ⌝ }
+fn put_label(settings: Settings, body: &[u8]) -> Decoded
+    requires { ⌜ length (now body) ≡ 6 ⌝ }
+    ensures { λ r. ⌜ r ≡ asPut settings (labelMark (now (body .entry))) ⌝ }
 {
-    let atom = mark.atom;
-    let depth = mark.depth;
-    let names = unless(is_markable(atom), 6);
-    let range = unless(is_depth(depth), 8);
-    first_of(names, range)
+    put(settings, label_mark(body))
 }
 
-fn put_of(mark: Mark) -> Decoded
-    ensures { λ r. ⌜ r ≡ putOf mark ⌝ }
+fn put_link(settings: Settings, body: &[u8]) -> Decoded
+    requires { ⌜ length (now body) ≡ 7 ⌝ }
+    ensures { λ r. ⌜ r ≡ asPut settings (linkMark (now (body .entry))) ⌝ }
 {
-    decoded_by(mark_number(mark), Command::Put(mark))
+    put(settings, link_mark(body))
 }
 
-fn take_of(mark: Mark) -> Decoded
-    ensures { λ r. ⌜ r ≡ takeOf mark ⌝ }
+fn take_label(settings: Settings, body: &[u8]) -> Decoded
+    requires { ⌜ length (now body) ≡ 6 ⌝ }
+    ensures { λ r. ⌜ r ≡ asTake settings (labelMark (now (body .entry))) ⌝ }
 {
-    decoded_by(mark_number(mark), Command::Take(mark))
+    take(settings, label_mark(body))
 }
 
-fn ask_of(atom: Atom, depth: i64) -> Decoded
-    ensures { λ r. ⌜ r ≡ askOf atom depth ⌝ }
+fn take_link(settings: Settings, body: &[u8]) -> Decoded
+    requires { ⌜ length (now body) ≡ 7 ⌝ }
+    ensures { λ r. ⌜ r ≡ asTake settings (linkMark (now (body .entry))) ⌝ }
 {
-    decoded_by(unless(is_statement(atom), 6), Command::Ask(atom, depth))
+    take(settings, link_mark(body))
 }
 
-// What asks for the spans of a label at an item; the span call beside the records uses it too.
-pub fn spans_of(item: u8, label: u8) -> Decoded
-    ensures { λ r. ⌜ r ≡ spansOf item label ⌝ }
+fn ask_label(settings: Settings, body: &[u8]) -> Decoded
+    requires { ⌜ length (now body) ≡ 10 ⌝ }
+    ensures { λ r. ⌜ r ≡ asQuestion settings (labelQuestion (now (body .entry))) ⌝ }
 {
-    decoded_by(
-        unless(is_statement(Atom::Has(item, label)), 6),
-        Command::Spans(item, label),
-    )
+    let atom = Atom::Has(body[0], body[1]);
+    ask(settings, Question::Holds(atom, codec::i64_at(body, 2)))
 }
 
-fn decode_body(kind: u16, body: &[u8]) -> Decoded
-    requires { ⌜ length (now body) + 2 ≡ lengthOf kind ⌝ }
-    ensures { λ r. ⌜ r ≡ decodeBody kind (now (body .entry)) ⌝ }
+fn ask_link(settings: Settings, body: &[u8]) -> Decoded
+    requires { ⌜ length (now body) ≡ 11 ⌝ }
+    ensures { λ r. ⌜ r ≡ asQuestion settings (linkQuestion (now (body .entry))) ⌝ }
+{
+    let atom = Atom::Linked(body[0], body[1], body[2]);
+    ask(settings, Question::Holds(atom, codec::i64_at(body, 3)))
+}
+
+fn ask_spans(settings: Settings, body: &[u8]) -> Decoded
+    requires { ⌜ length (now body) ≡ 2 ⌝ }
+    ensures { λ r. ⌜ r ≡ asQuestion settings (spansQuestion (now (body .entry))) ⌝ }
+{
+    ask(settings, Question::Spans(body[0], body[1]))
+}
+
+// The table of kinds: decoders. The frame lets no other kind come here.
+pub fn decode(settings: Settings, kind: u16, body: &[u8]) -> Decoded
+    requires { ⌜ T (allows (lengthsOf kind) (length (now body) + 2)) ⌝ }
+    ensures { λ r. ⌜ r ≡ decodeBody settings kind (now (body .entry)) ⌝ }
 {
     match kind {
         1 => Decoded::Command(Command::Reset),
-        2 => label_rule(body),
-        3 => both_rule(body),
-        4 => link_rule(body),
-        5 => via_rule(body),
-        6 => put_of(label_mark(body)),
-        7 => put_of(link_mark(body)),
-        8 => take_of(label_mark(body)),
-        9 => take_of(link_mark(body)),
-        10 => ask_of(Atom::Has(body[0], body[1]), codec::i64_at(body, 2)),
-        11 => ask_of(
-            Atom::Linked(body[0], body[1], body[2]),
-            codec::i64_at(body, 3),
-        ),
-        _ => spans_of(body[0], body[1]),
+        2 => label_rule(settings, body),
+        3 => both_rule(settings, body),
+        4 => link_rule(settings, body),
+        5 => via_rule(settings, body),
+        6 => put_label(settings, body),
+        7 => put_link(settings, body),
+        8 => take_label(settings, body),
+        9 => take_link(settings, body),
+        10 => ask_label(settings, body),
+        11 => ask_link(settings, body),
+        12 => ask_spans(settings, body),
+        _ => Decoded::Refused(4),
     }
 }
 
-fn with_used(decoded: Decoded, used: usize) -> Parsed
-    ensures { λ r. ⌜ r ≡ withUsed decoded used ⌝ }
+// The record of a kind where no test applies.
+fn framed_by(tested: Tested, kind: u16, used: usize) -> Framed
+    ensures { λ r. ⌜ r ≡ framedAs tested kind used ⌝ }
 {
-    match decoded {
-        Decoded::Command(command) => Parsed::Command(command, used),
-        Decoded::Refused(number) => Parsed::Refused(number, used),
+    match tested {
+        Tested::Passed => Framed::Record(kind, used),
+        Tested::Refused(number) => Framed::Refused(number, used),
     }
 }
 
-// What is left of the input: the tests of the frame, then the body.
-pub fn parse(input: &[u8]) -> Parsed
-    ensures read { λ r. ⌜ r ≡ parsedAs (now (input .entry)) ⌝ }
-    ensures used { λ r. ⌜ usedIn r ≤ length (now (input .entry)) ⌝ }
+// The frame of what is left of the input. The body is what stands behind its first four bytes.
+pub fn frame(input: &[u8]) -> Framed
+    ensures { λ r. ⌜ r ≡ framed (now (input .entry)) ⌝ }
 {
     if input.len() == 0 {
-        return Parsed::Nothing;
+        return Framed::Nothing;
     }
     if input.len() < 4 {
-        return Parsed::Refused(3, input.len());
+        return Framed::Refused(3, input.len());
     }
     let length = codec::u16_at(input, 0) as usize;
     if length < 2 {
-        return Parsed::Refused(3, input.len());
+        return Framed::Refused(3, input.len());
     }
     if input.len() - 2 < length {
-        return Parsed::Refused(3, input.len());
+        return Framed::Refused(3, input.len());
     }
-    let end = length + 2;
     let kind = codec::u16_at(input, 2);
-    let known = length_of(kind);
-    if known == 0 {
-        return Parsed::Refused(4, end);
-    }
-    if known != length {
-        return Parsed::Refused(5, end);
-    }
-    with_used(decode_body(kind, &input[4..end]), end)
+    let tested = lengths_of(kind).tested(length);
+    framed_by(tested, kind, length + 2)
 }

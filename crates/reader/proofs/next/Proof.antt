@@ -1,4 +1,4 @@
--- `reader::next` meets its contract: a walk of its MIR, by hand. The struct is taken apart, and `parse_at` is called on the slice and the place. All that the proof knows of `parse_at` is that it meets its contract.
+-- `reader::next` meets its contract: a walk of its MIR, by hand. The struct is taken apart, and `frame_at` is called on the slice and the place. All that the proof knows of `frame_at` is that it meets its contract.
 -- The struct is Copy: what it owns is had twice, one copy is kept whole for the exit, and of the other what src owns goes to the callee, beside the lifetime's token, which comes back.
 -- Assumes nothing.
 use mathlib.Core.Path.{_≡_, refl}
@@ -40,17 +40,17 @@ use denote.Triple.Spec.{Meets, tripleOf}
 use denote.Triple.Table.{entered, cited}
 use denote.Triple.Walked.{says, walkOf, Walks, ends-at, walked, walk-meets}
 use denote.Triple.Clauses.{ensured, lasts}
-use Rattle.records.specs.Records.{parse as parsedAs}
-use Rattle.records.specs.declared.Parsed.{Parsed}
-use Rattle.records.proofs.Parsed as S
-use Rattle.records.proofs.Parsed.Laws as S′
+use Rattle.records.specs.Records.{framed}
+use Rattle.records.specs.declared.Framed.{Framed}
+use Rattle.records.proofs.Framed as S
+use Rattle.records.proofs.Framed.Laws as S′
 use Rattle.reader.specs.declared.Reader.{Reader}
 use Rattle.reader.proofs.Reader.Laws as T′
 use Rattle.reader.proofs.Held.{token, declared, laws, row, rows, sliced, struct-spells, struct-tells, struct-stays, struct-goes}
-use Rattle.reader.proofs.parse_at as parse
-use Rattle.reader.proofs.parse_at.Symbol as parse-def
-use Rattle.reader.proofs.parse_at.Symbol.{name as #reader·parse-at}
-use Rattle.reader.proofs.parse_at.Met as parse-thm
+use Rattle.reader.proofs.frame_at as framing
+use Rattle.reader.proofs.frame_at.Symbol as frame-def
+use Rattle.reader.proofs.frame_at.Symbol.{name as #reader·frame-at}
+use Rattle.reader.proofs.frame_at.Met as frame-thm
 use Rattle.reader.proofs.next.Key.{name as #reader·next}
 use Rattle.reader.proofs.next as next
 use Rattle.reader.proofs.next.Statement as stated
@@ -58,15 +58,15 @@ use Rattle.reader.proofs.next.Code as code
 
 module _ {M : Type 1} (𝓤 : URA M) (H : Heap 𝓤) (A : Atoms 𝓤) (mem : Memory → SProp 𝓤) (run : Routine → Fun 𝓤) where
   -- the contract that the proof cites
-  abbrev ParseAt : Contract 𝓤
-  ParseAt = tripleOf 𝓤 H A parse.signature (parse.spec 𝓤 H A mem run)
+  abbrev FrameAt : Contract 𝓤
+  FrameAt = tripleOf 𝓤 H A framing.signature (framing.spec 𝓤 H A mem run)
 
 module _ {M : Type 1} (𝓤 : URA M) (H : Heap 𝓤) (A : Atoms 𝓤) (W : Given 𝓤 H A) (mem : Memory → SProp 𝓤) (run : Routine → Fun 𝓤) (κ : Lft) (q : Share) (d : Reader) where
   abbrev mach : Val
   mach = T′.lowered d
 
-  abbrev found : Parsed
-  found = parsedAs (dropped (d .at) (now (d .src)))
+  abbrev found : Framed
+  found = framed (dropped (d .at) (now (d .src)))
 
   abbrev Entry : SProp 𝓤
   Entry = onEntry 𝓤 H A next.signature (κ, tt) (q, tt) (d, tt) (mach ∷ [], tt)
@@ -88,17 +88,17 @@ module _ {M : Type 1} (𝓤 : URA M) (H : Heap 𝓤) (A : Atoms 𝓤) (W : Given
   vd = (d .src, (d .at, tt))
 
   -- what the callee is passed
-  abbrev passed : Vals parse.signature (κ, tt)
+  abbrev passed : Vals framing.signature (κ, tt)
   passed = (sliced (d .src) ∷ [], (vint w64 (d .at) ∷ [], tt))
 
-  abbrev to : ParseAt 𝓤 H A mem run .Ghost
+  abbrev to : FrameAt 𝓤 H A mem run .Ghost
   to = (((κ, tt), (q, tt), tt, (d .src, (d .at, tt)), passed), tt)
 
-  asked : ent 𝓤 (onEntry 𝓤 H A parse.signature (κ, tt) (q, tt) (d .src, (d .at, tt)) passed) (ParseAt 𝓤 H A mem run .pre to)
+  asked : ent 𝓤 (onEntry 𝓤 H A framing.signature (κ, tt) (q, tt) (d .src, (d .at, tt)) passed) (FrameAt 𝓤 H A mem run .pre to)
   asked = qed W (token 𝓤 κ q ∷ ‵ (owns (rows κ) (d .src, (d .at, tt)) passed) ∷ []) ∵ join ! $ frame ! $ done !
 
   -- what the struct owns gives what the callee asks, and is kept
-  apart : d .at < 2 ^ 64 → ent 𝓤 Entry (sep 𝓤 (ParseAt 𝓤 H A mem run .pre to) (sem 𝓤 H A Own))
+  apart : d .at < 2 ^ 64 → ent 𝓤 Entry (sep 𝓤 (FrameAt 𝓤 H A mem run .pre to) (sem 𝓤 H A Own))
   apart fits =
       qed W (token 𝓤 κ q ∷ ‵ (owns (row (κ, tt) ∷ []) (d, tt) (mach ∷ [], tt)) ∷ []) ∵
       move ! (1 ∷ []) $ fsplit ! $ move ! (1 ∷ []) $ drop ! $
@@ -107,19 +107,19 @@ module _ {M : Type 1} (𝓤 : URA M) (H : Heap 𝓤) (A : Atoms 𝓤) (W : Given
       use1 W (‵ (ownAt (D .parts) L 0 (d .src)) ⊛ ‵ (rest (D .parts) L 0 vd)) (own-out 𝓤 H A W (D .parts) L 0 vd) $ split ! $
       -- [what src owns; what at owns; what the struct owns; the token]
       move ! (1 ∷ []) $ drop ! $ nothing ! $ owned ! usize (Is usize) (uint-makes 𝓤 H A W w64) (d .at) _ (refl, fits) $ fjoin ! $ move ! (1 ∷ 0 ∷ []) $ fjoin ! $
-      move ! (2 ∷ 0 ∷ []) $ use2 W (raw (ParseAt 𝓤 H A mem run .pre to)) asked $ frame ! $ done !)
+      move ! (2 ∷ 0 ∷ []) $ use2 W (raw (FrameAt 𝓤 H A mem run .pre to)) asked $ frame ! $ done !)
 
   -- of the callee's `ensured`, the clause alone: it has no `&mut`, so what is said of last values is dropped
-  said : (r : Parsed) → ent 𝓤 (ensured 𝓤 H A parse.ended (parse.clauses 𝓤 H A mem run) (κ, tt) (d .src, (d .at, tt)) tt r) (fact 𝓤 (r ≡ found))
-  said r = exE 𝓤 _ (λ ws. snd∗ 𝓤 (sem 𝓤 H A (lasts parse.ended (κ, tt) (d .src, (d .at, tt)) ws)) (fact 𝓤 (r ≡ found)))
+  said : (r : Framed) → ent 𝓤 (ensured 𝓤 H A framing.ended (framing.clauses 𝓤 H A mem run) (κ, tt) (d .src, (d .at, tt)) tt r) (fact 𝓤 (r ≡ found))
+  said r = exE 𝓤 _ (λ ws. snd∗ 𝓤 (sem 𝓤 H A (lasts framing.ended (κ, tt) (d .src, (d .at, tt)) ws)) (fact 𝓤 (r ≡ found)))
 
-  exits : (r : Parsed) (u : Val) → r ≡ found → ent 𝓤 (⋆ 𝓤 H A (‵ (S.the-row .own r (u ∷ [])) ∷ token 𝓤 κ q ∷ ‵ Own ∷ [])) (Post u)
+  exits : (r : Framed) (u : Val) → r ≡ found → ent 𝓤 (⋆ 𝓤 H A (‵ (S.the-row .own r (u ∷ [])) ∷ token 𝓤 κ q ∷ ‵ Own ∷ [])) (Post u)
   exits r u e =
       qed W (‵ (S.the-row .own r (u ∷ [])) ∷ token 𝓤 κ q ∷ ‵ Own ∷ []) ∵
       suffices ! _ (ends-at 𝓤 H A next.ended struct-stays (next.clauses 𝓤 H A mem run) W (((κ, tt), (q, tt), tt, (d, tt), (mach ∷ [], tt)), tt) u r (tt, tt) (tt, tt)) $
       says ! e $ move ! (1 ∷ []) $ frame ! $ nothing ! $ move ! (2 ∷ 0 ∷ []) $ fjoin ! $ frame ! $ done !
 
-  module _ (C : Calls 𝓤 H) (Λ : Loops 𝓤 H) (fm : FmC 𝓤 H (W .laws) C) (known : Triple 𝓤 (C #reader·parse-at) (ParseAt 𝓤 H A mem run)) where
+  module _ (C : Calls 𝓤 H) (Λ : Loops 𝓤 H) (fm : FmC 𝓤 H (W .laws) C) (known : Triple 𝓤 (C #reader·frame-at) (FrameAt 𝓤 H A mem run)) where
     walk : Holds (hasTy (T′.mir (named 0)) mach) × WT mach → ent 𝓤 Entry (WpFn 𝓤 H C Λ code.function (mach ∷ []) Post)
     walk wt =
         qed W (raw Entry ∷ []) ∵ enter ! C Λ code.function (mach ∷ []) _ $
@@ -127,9 +127,9 @@ module _ {M : Type 1} (𝓤 : URA M) (H : Heap 𝓤) (A : Atoms 𝓤) (W : Given
         -- [room for _3; …; room for _2; …; _1; …; room for _0; …; what is had at entry]
         assigns ! (of-opd ! (load ! (from ! (fld ! refl (stop !))) (look-in ! 4 (sub ! 0 refl (whole !))))) (from ! (stop !)) (init ! 2 refl (tt, wt .1 .0)) $
         assigns ! (of-opd ! (load ! (from ! (fld ! refl (stop !))) (look-in ! 4 (sub ! 1 refl (whole !))))) (from ! (stop !)) (init ! 0 refl (tt, wt .1 .1 .0)) $
-        move ! (8 ∷ []) $ use1 W (raw (ParseAt 𝓤 H A mem run .pre to) ⊛ ‵ Own) (apart (wt .1 .1 .0 .fits)) $ split ! $
-        calls-at ! fm (ParseAt 𝓤 H A mem run) known to (and-then ! (load ! (from ! (stop !)) (look ! 4 refl)) (and-then ! (load ! (from ! (stop !)) (look ! 2 refl)) (no-more !))) (λ u.
-        use1 W (later (some (λ (r : Parsed). (token 𝓤 κ q ⊛ ‵ (S.the-row .own r (u ∷ []))) ⊛ raw (ensured 𝓤 H A parse.ended (parse.clauses 𝓤 H A mem run) (κ, tt) (d .src, (d .at, tt)) tt r))))
+        move ! (8 ∷ []) $ use1 W (raw (FrameAt 𝓤 H A mem run .pre to) ⊛ ‵ Own) (apart (wt .1 .1 .0 .fits)) $ split ! $
+        calls-at ! fm (FrameAt 𝓤 H A mem run) known to (and-then ! (load ! (from ! (stop !)) (look ! 4 refl)) (and-then ! (load ! (from ! (stop !)) (look ! 2 refl)) (no-more !))) (λ u.
+        use1 W (later (some (λ (r : Framed). (token 𝓤 κ q ⊛ ‵ (S.the-row .own r (u ∷ []))) ⊛ raw (ensured 𝓤 H A framing.ended (framing.clauses 𝓤 H A mem run) (κ, tt) (d .src, (d .at, tt)) tt r))))
         (id⊢ 𝓤 _) $ await ! tt $ pick ! (λ r.
         split ! $ move ! (1 ∷ []) $ use1 W (raw (fact 𝓤 (r ≡ found))) (said r) $ heard ! (r ≡ found) (λ e. split ! $ move ! (1 ∷ []) $
         -- [the result; the token; what the struct owns; _3; …; _2; …; _1; …; room for _0; …]
@@ -138,7 +138,7 @@ module _ {M : Type 1} (𝓤 : URA M) (H : Heap 𝓤) (A : Atoms 𝓤) (W : Given
         returns ! (look ! 9 refl) $ forget ! 3 refl $ forget ! 5 refl $ forget ! 7 refl $ forget ! 9 refl $
         move ! (9 ∷ 10 ∷ []) $ free1 ! $ move ! (7 ∷ 8 ∷ []) $ free1 ! $ move ! (5 ∷ 6 ∷ []) $ free1 ! $ move ! (3 ∷ 4 ∷ []) $ free1 ! $ free0 ! $ by ! (exits r u e)))))))))
 
-module _ {M : Type 1} (𝓤 : URA M) (H : Heap 𝓤) (A : Atoms 𝓤) (W : Given 𝓤 H A) (mem : Memory → SProp 𝓤) (run : Routine → Fun 𝓤) (𝓣 : Tables 𝓤 H) (known : Triple 𝓤 (𝓣 .C #reader·parse-at) (ParseAt 𝓤 H A mem run)) where
+module _ {M : Type 1} (𝓤 : URA M) (H : Heap 𝓤) (A : Atoms 𝓤) (W : Given 𝓤 H A) (mem : Memory → SProp 𝓤) (run : Routine → Fun 𝓤) (𝓣 : Tables 𝓤 H) (known : Triple 𝓤 (𝓣 .C #reader·frame-at) (FrameAt 𝓤 H A mem run)) where
   abbrev Runs : Fun 𝓤
   Runs = WpFn 𝓤 H (𝓣 .C) (𝓣 .Λ) code.function
 
@@ -155,4 +155,4 @@ next-spec 𝓤 H 𝓜 𝓖 𝓡 =
     entered 𝓤 H (tripleOf 𝓤 H (𝓖 .A) next.signature (next.spec 𝓤 H (𝓖 .A) (𝓜 .mem) (𝓡 .run)))
     (tables 𝓤 H 𝓜 𝓡 code.env .C) (tables 𝓤 H 𝓜 𝓡 code.env .Λ) #reader·next code.function (code.unfolded 𝓤 H 𝓜 𝓡)
     (meets 𝓤 H (𝓖 .A) (givenOf 𝓤 H 𝓜 𝓖) (𝓜 .mem) (𝓡 .run) (tablesOf 𝓤 H 𝓜 (tables 𝓤 H 𝓜 𝓡 code.env))
-    (cited 𝓤 H (ParseAt 𝓤 H (𝓖 .A) (𝓜 .mem) (𝓡 .run)) 𝓜 𝓡 code.env #reader·parse-at parse-def.routine code.calls-reader·parse-at (parse-thm.met 𝓤 H 𝓜 𝓖 𝓡)))
+    (cited 𝓤 H (FrameAt 𝓤 H (𝓖 .A) (𝓜 .mem) (𝓡 .run)) 𝓜 𝓡 code.env #reader·frame-at frame-def.routine code.calls-reader·frame-at (frame-thm.met 𝓤 H 𝓜 𝓖 𝓡)))

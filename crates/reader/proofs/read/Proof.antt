@@ -35,10 +35,10 @@ use denote.Triple.Spec.{Meets, tripleOf}
 use denote.Triple.Table.{entered, cited}
 use denote.Triple.Walked.{says, walkOf, Walks, ends-at, walked, walk-meets}
 use denote.Triple.Clauses.{ensured, lasts}
-use Rattle.records.specs.Records.{parse as parsedAs}
-use Rattle.records.specs.declared.Parsed.{Parsed}
-use Rattle.records.proofs.Parsed as S
-use Rattle.records.proofs.Parsed.Laws as S′
+use Rattle.records.specs.Records.{framed}
+use Rattle.records.specs.declared.Framed.{Framed}
+use Rattle.records.proofs.Framed as S
+use Rattle.records.proofs.Framed.Laws as S′
 use Rattle.reader.specs.declared.Reader.{Reader}
 use Rattle.reader.proofs.Reader as T
 use Rattle.reader.proofs.Reader.Laws as T′
@@ -70,8 +70,8 @@ module _ {M : Type 1} (𝓤 : URA M) (H : Heap 𝓤) (A : Atoms 𝓤) (W : Given
   passed = (sliced s ∷ [], (vint w64 n ∷ [], tt))
 
   -- what stands from the place k of x on
-  abbrev found : RefT (List ℕ) → ℕ → Parsed
-  found x k = parsedAs (drop k (now x))
+  abbrev found : RefT (List ℕ) → ℕ → Framed
+  found x k = framed (drop k (now x))
 
   -- the lifetime of the struct's type as a local of a body has it
   abbrev αᵉ : NamedLft
@@ -107,17 +107,17 @@ module _ {M : Type 1} (𝓤 : URA M) (H : Heap 𝓤) (A : Atoms 𝓤) (W : Given
   goes-next : (r : Reader) (u : Val) → ent 𝓤 (⋆ 𝓤 H A (‵ (row (κ, tt) .own r (u ∷ [])) ∷ token 𝓤 κ q ∷ [])) (Next 𝓤 H A mem run .pre (to-next r u))
   goes-next r u = qed W (‵ (row (κ, tt) .own r (u ∷ [])) ∷ token 𝓤 κ q ∷ []) ∵ nothing ! $ move ! (1 ∷ 0 ∷ []) $ fjoin ! $ move ! (1 ∷ 0 ∷ []) $ join ! $ frame ! $ done !
 
-  abbrev Found : Reader → Parsed → Type 0
+  abbrev Found : Reader → Framed → Type 0
   Found r t = t ≡ found (r .src) (r .at)
 
-  next-said : (r : Reader) (t : Parsed) → ent 𝓤 (ensured 𝓤 H A next.ended (next.clauses 𝓤 H A mem run) (κ, tt) (r, tt) tt t) (fact 𝓤 (Found r t))
+  next-said : (r : Reader) (t : Framed) → ent 𝓤 (ensured 𝓤 H A next.ended (next.clauses 𝓤 H A mem run) (κ, tt) (r, tt) tt t) (fact 𝓤 (Found r t))
   next-said r t = exE 𝓤 _ (λ ws. snd∗ 𝓤 (sem 𝓤 H A (lasts next.ended (κ, tt) (r, tt) ws)) (fact 𝓤 (Found r t)))
 
   -- what `next` found in what `from` made
-  both-said : (r : Reader) (t : Parsed) → Made r → Found r t → t ≡ found s n
+  both-said : (r : Reader) (t : Framed) → Made r → Found r t → t ≡ found s n
   both-said r t e e′ = e′ ∙ (ap (λ (x : RefT (List ℕ)). found x (r .at)) (e .0) ∙ ap (found s) (e .1))
 
-  exits : (t : Parsed) (u : Val) → t ≡ found s n → ent 𝓤 (⋆ 𝓤 H A (‵ (S.the-row .own t (u ∷ [])) ∷ token 𝓤 κ q ∷ ‵ (slice-own κ s) ∷ [])) (Post u)
+  exits : (t : Framed) (u : Val) → t ≡ found s n → ent 𝓤 (⋆ 𝓤 H A (‵ (S.the-row .own t (u ∷ [])) ∷ token 𝓤 κ q ∷ ‵ (slice-own κ s) ∷ [])) (Post u)
   exits t u e =
       qed W (‵ (S.the-row .own t (u ∷ [])) ∷ token 𝓤 κ q ∷ ‵ (slice-own κ s) ∷ []) ∵
       suffices ! _ (ends-at 𝓤 H A read.ended input-stays (read.clauses 𝓤 H A mem run) W (((κ, tt), (q, tt), tt, (s, (n, tt)), passed), tt) u t (tt, (tt, tt)) (tt, (tt, tt))) $
@@ -140,7 +140,7 @@ module _ {M : Type 1} (𝓤 : URA M) (H : Heap 𝓤) (A : Atoms 𝓤) (W : Given
         land ! (from ! (stop !)) (init ! 3 refl (LL.lawful (T.the-type αᵉ) (T′.the-laws αᵉ) 𝓤 H A W .typed r _ is .0)) $
         use2 W (raw (Next 𝓤 H A mem run .pre (to-next r u))) (goes-next r u) $
         calls-at ! fm (Next 𝓤 H A mem run) known-next (to-next r u) (and-then ! (load ! (from ! (stop !)) (look ! 2 refl)) (no-more !)) (λ u′.
-        use1 W (later (some (λ (t : Parsed). (token 𝓤 κ q ⊛ ‵ (S.the-row .own t (u′ ∷ []))) ⊛ raw (ensured 𝓤 H A next.ended (next.clauses 𝓤 H A mem run) (κ, tt) (r, tt) tt t))))
+        use1 W (later (some (λ (t : Framed). (token 𝓤 κ q ⊛ ‵ (S.the-row .own t (u′ ∷ []))) ⊛ raw (ensured 𝓤 H A next.ended (next.clauses 𝓤 H A mem run) (κ, tt) (r, tt) tt t))))
         (id⊢ 𝓤 _) $ await ! tt $ pick ! (λ t.
         split ! $ move ! (1 ∷ []) $ use1 W (raw (fact 𝓤 (Found r t))) (next-said r t) $ heard ! (Found r t) (λ e′. split ! $ move ! (1 ∷ []) $
         -- [the result; the token; what s owns; _3; …; _2; …; _1; …; room for _0; …]
