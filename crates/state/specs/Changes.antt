@@ -6,8 +6,8 @@ use lib.ListN.{length}
 use Rattle.terms.specs.declared.Rule.{Rule}
 use Rattle.terms.specs.declared.Mark.{Mark}
 use Rattle.terms.specs.Limits.{RULES, MARKS, DEPTHS}
-use Rattle.terms.specs.Held.{Held, withRules, withMarks}
-pub use Rattle.terms.specs.Refusals.{Test, test, lowest}
+use Rattle.terms.specs.Held.{Held, freshSettings, withRules, withMarks}
+use Rattle.terms.specs.Refusals.{Test, test}
 use Rattle.terms.specs.Same.{sameRule, sameMark, sameDepth}
 use Rattle.terms.specs.Lists.{some, strike, depthCount}
 
@@ -38,6 +38,6 @@ putMark h m = withMarks h (h .marks ++ (m ∷ []))
 abbrev pub takeMark : Held → Mark → Held
 takeMark h m = withMarks h (strike (sameMark m) (h .marks))
 
--- 01, The book: both empty at first
+-- 01, The book: both lists empty at first, and nothing set
 abbrev pub emptyHeld : Held
-emptyHeld = record { rules = []; marks = []; settings = tt }
+emptyHeld = record { rules = []; marks = []; settings = freshSettings }

@@ -7,7 +7,7 @@ use borrow.Author.Needs.{needs}
 use lib.ListN.{length, take, drop, length-set}
 use lib.Seq.{take-take, length-take-le, getD-take, drop-length}
 use Rattle.terms.specs.declared.Mark.{Mark}
-use Rattle.state.proofs.Scan.{length-of-map, gap-more}
+use Rattle.keys.proofs.Scan.{length-of-map, gap-more}
 use Rattle.state.proofs.without.Statement.{statement}
 use Rattle.state.proofs.without.Tie as tie
 

@@ -6,24 +6,24 @@ use lib.ListN.{length-set}
 use Rattle.terms.specs.declared.Mark.{Mark}
 use Rattle.terms.specs.Held.{withMarks}
 use Rattle.state.specs.State.{heldOf}
-use Rattle.state.proofs.Scan.{take-more-set}
+use Rattle.keys.proofs.Scan.{take-more-set}
 use borrow.Author.Needs.{needs}
 use Rattle.state.proofs.State.add_mark.Statement.{statement}
 use Rattle.state.proofs.State.add_mark.Tie as tie
 
-mul-marks : tie.Need-mul-marks
-mul-marks c = search needs
+mul-mark : tie.Need-mul-mark
+mul-mark c = search needs
 
-array-set-from-marks : tie.Need-array-set-from-marks
-array-set-from-marks c = search needs
+element-set-from-mark : tie.Need-element-set-from-mark
+element-set-from-mark c = search needs
 
-add-t7 : tie.Need-add-t7
-add-t7 c = search needs
+add-next : tie.Need-add-next
+add-next c = search needs
 
 returns : tie.Need-returns
 returns c =
-    let a = c .before .before .args in
-    let p = c .before .before .pre .0 in
+    let a = c .args in
+    let p = c .pre .0 in
     record {
       held = ap (λ (ms : List Mark). withMarks (heldOf (a .self)) ms) (take-more-set (a .self .marks) (a .self .«mark_count») (a .mark) (omega arith));
       counts = record {
@@ -35,4 +35,4 @@ returns c =
     }
 
 pub add-mark-spec : {M : Type 1} → statement M
-add-mark-spec = tie.close (tie.spec mul-marks array-set-from-marks add-t7 returns)
+add-mark-spec = tie.close (tie.spec mul-mark element-set-from-mark add-next returns)

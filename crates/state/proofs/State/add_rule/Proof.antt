@@ -6,24 +6,24 @@ use lib.ListN.{length-set}
 use Rattle.terms.specs.declared.Rule.{Rule}
 use Rattle.terms.specs.Held.{withRules}
 use Rattle.state.specs.State.{heldOf}
-use Rattle.state.proofs.Keyed.{rules-set}
+use Rattle.scans.proofs.Keyed.{rules-set}
 use borrow.Author.Needs.{needs}
 use Rattle.state.proofs.State.add_rule.Statement.{statement}
 use Rattle.state.proofs.State.add_rule.Tie as tie
 
-mul-rules : tie.Need-mul-rules
-mul-rules c = search needs
+mul-t6 : tie.Need-mul-t6
+mul-t6 c = search needs
 
-array-set-from-rules : tie.Need-array-set-from-rules
-array-set-from-rules c = search needs
+element-set-from-next : tie.Need-element-set-from-next
+element-set-from-next c = search needs
 
-add-t8 : tie.Need-add-t8
-add-t8 c = search needs
+add-next : tie.Need-add-next
+add-next c = search needs
 
 returns : tie.Need-returns
 returns c =
-    let a = c .before .before .args in
-    let p = c .before .before .pre .0 in
+    let a = c .args in
+    let p = c .pre .0 in
     record {
       held = ap (λ (rs : List Rule). withRules (heldOf (a .self)) rs) (rules-set (a .self .rules) (a .self .«rule_count») _ (omega arith));
       counts = record {
@@ -35,4 +35,4 @@ returns c =
     }
 
 pub add-rule-spec : {M : Type 1} → statement M
-add-rule-spec = tie.close (tie.spec mul-rules array-set-from-rules add-t8 returns)
+add-rule-spec = tie.close (tie.spec mul-t6 element-set-from-next add-next returns)

@@ -1,4 +1,4 @@
--- By the number of the tests.
+-- By what the tests came to.
 use mathlib.Core.Path.{refl, sym, _∙_}
 use native.Mathlib.Omega.{arith}
 use lib.Seq.{length-take-le}
@@ -8,21 +8,31 @@ use borrow.Author.Needs.{needs}
 use Rattle.state.proofs.State.put.Statement.{statement}
 use Rattle.state.proofs.State.put.Tie as tie
 
-put-number-requires : tie.Need-put-number-requires
-put-number-requires c κs = search needs
+put-tested-requires : tie.Need-put-tested-requires
+put-tested-requires c κs = search needs
+
+enum-told : tie.Need-enum-told
+enum-told c = search needs
 
 add-mark-requires : tie.Need-add-mark-requires
 add-mark-requires c κs =
-    let s = c .before .before .args .self in
-    let p = c .before .before .pre in
+    let start = c .before .before .before in
+    let s = start .args .self in
     let n = length-take-le (s .«mark_count») (s .marks) (omega arith) in
-    (p, omega (arith, put-room (heldOf s) (c .before .before .args .mark) (sym (c .before .put-number .ensures) ∙ c .if1 .taken)))
+    let room = put-room (heldOf s) (start .args .mark) (sym (c .before .before .put-tested .ensures) ∙ c .enum-told .given .1) in
+    (start .pre, omega (arith, room))
+
+enum-told-2 : tie.Need-enum-told-2
+enum-told-2 c = search needs
 
 returns : tie.Need-returns
-returns c = accepted-as _ _ _ _ _ (c .before .before .put-number .ensures) (c .before .if1 .taken) (c .add-mark .ensures)
+returns c = accepted-as _ _ _ _ _ (c .before .before .before .put-tested .ensures) (c .before .enum-told .given .1) (c .add-mark .ensures)
 
 returns-2 : tie.Need-returns-2
-returns-2 c = refused-as _ _ _ _ _ (c .before .put-number .ensures) (c .if1 .left) (record { held = refl; counts = c .before .before .pre })
+returns-2 c =
+    refused-as _ _ _ _ _ (c .before .before .put-tested .ensures) _ (c .enum-told2 .given .1) (record { held = refl; counts = c .before .before .before .pre })
 
 pub put-spec : {M : Type 1} → statement M
-put-spec = tie.close (tie.spec put-number-requires add-mark-requires returns returns-2)
+put-spec =
+    tie.close
+    (tie.spec put-tested-requires enum-told add-mark-requires enum-told-2 returns returns-2)

@@ -7,13 +7,13 @@ use lib.ListN.{length, take}
 use lib.Seq.{length-take-le}
 use Rattle.terms.specs.Same.{sameMark}
 use Rattle.terms.specs.Lists.{some}
-use Rattle.state.proofs.Scan.{found, missing}
+use Rattle.keys.proofs.Scan.{found, missing}
 use borrow.Author.Needs.{needs}
-use Rattle.state.proofs.State.put_number.Statement.{statement}
-use Rattle.state.proofs.State.put_number.Tie as tie
+use Rattle.state.proofs.State.put_tested.Statement.{statement}
+use Rattle.state.proofs.State.put_tested.Tie as tie
 
-mark-place-requires : tie.Need-mark-place-requires
-mark-place-requires c κs = search needs
+mark-index-requires : tie.Need-mark-index-requires
+mark-index-requires c κs = search needs
 
 count : (c : tie.Start) → length (take (c .args .self .«mark_count») (c .args .self .marks)) ≡ c .args .self .«mark_count»
 count c = length-take-le (c .args .self .«mark_count») (c .args .self .marks) (omega arith)
@@ -21,12 +21,12 @@ count c = length-take-le (c .args .self .«mark_count») (c .args .self .marks) 
 none : (c : tie.Else1) → some (sameMark (c .before .before .before .args .mark)) (take (c .before .before .before .args .self .«mark_count») (c .before .before .before .args .self .marks)) ≡ false
 none c =
     let s = c .before .before .before .args .self in
-    missing (sameMark (c .before .before .before .args .mark)) (take (s .«mark_count») (s .marks)) (s .«mark_count») (c .before .mark-place .result) (count (c .before .before .before)) (c .before .mark-place .ensures) (c .if1 .left)
+    missing (sameMark (c .before .before .before .args .mark)) (take (s .«mark_count») (s .marks)) (s .«mark_count») (c .before .mark-index .result) (count (c .before .before .before)) (c .before .mark-index .ensures) (c .if1 .left)
 
 returns : tie.Need-returns
 returns c =
     let s = c .before .before .before .args .self in
-    sym (rw (found (sameMark (c .before .before .before .args .mark)) (take (s .«mark_count») (s .marks)) (s .«mark_count») (c .before .mark-place .result) (count (c .before .before .before)) (c .before .mark-place .ensures) (c .if1 .taken)))
+    sym (rw (found (sameMark (c .before .before .before .args .mark)) (take (s .«mark_count») (s .marks)) (s .«mark_count») (c .before .mark-index .result) (count (c .before .before .before)) (c .before .mark-index .ensures) (c .if1 .taken)))
 
 returns-2 : tie.Need-returns-2
 returns-2 c =
@@ -54,11 +54,11 @@ returns-5 c =
     let s = c .before .before .before .before .before .before .before .before .args .self in
     sym (rw (none (c .before .before .before .before .before), count (c .before .before .before .before .before .before .before .before), lt-leb 256 (s .«mark_count») (c .before .before .before .before .if2 .left), sym (c .before .before .before .has-depth .ensures) ∙ c .before .before .if3 .left, sym (c .before .depth-count .ensures), lt-leb 96 _ (c .if4 .left)))
 
-pub put-number-spec : {M : Type 1} → statement M
-put-number-spec =
+pub put-tested-spec : {M : Type 1} → statement M
+put-tested-spec =
     tie.close
     (tie.spec
-    mark-place-requires
+    mark-index-requires
     returns
     returns-2
     has-depth-requires

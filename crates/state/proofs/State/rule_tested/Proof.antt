@@ -2,10 +2,10 @@
 use mathlib.Core.Path.{sym, _∙_}
 use native.Mathlib.Omega.{arith}
 use borrow.Author.Tests.{le-leb, lt-leb}
-use Rattle.state.proofs.Keyed.{rules-length}
+use Rattle.scans.proofs.Keyed.{rules-length}
 use borrow.Author.Needs.{needs}
-use Rattle.state.proofs.State.rule_number.Statement.{statement}
-use Rattle.state.proofs.State.rule_number.Tie as tie
+use Rattle.state.proofs.State.rule_tested.Statement.{statement}
+use Rattle.state.proofs.State.rule_tested.Tie as tie
 
 has-rule-requires : tie.Need-has-rule-requires
 has-rule-requires c κs = search needs
@@ -27,5 +27,5 @@ returns-3 c =
     let n = rules-length (s .rules) (s .«rule_count») (omega arith) in
     sym (rw (sym (c .before .before .has-rule .ensures) ∙ c .before .if1 .left, n, lt-leb 128 (s .«rule_count») (c .if2 .left)))
 
-pub rule-number-spec : {M : Type 1} → statement M
-rule-number-spec = tie.close (tie.spec has-rule-requires returns returns-2 returns-3)
+pub rule-tested-spec : {M : Type 1} → statement M
+rule-tested-spec = tie.close (tie.spec has-rule-requires returns returns-2 returns-3)
