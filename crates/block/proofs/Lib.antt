@@ -4,4 +4,3 @@ pub mod Pack
 pub mod Equal
 pub mod Loading
 pub mod Round
-pub mod Small

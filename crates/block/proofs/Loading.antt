@@ -10,13 +10,15 @@ use Rattle.codec.specs.Bytes.{little}
 use Rattle.terms.specs.declared.Rule.{Rule}
 use Rattle.terms.specs.declared.Mark.{Mark}
 use Rattle.terms.specs.Tests.{of-true}
-use Rattle.terms.specs.Held.{rulesIn}
+use Rattle.terms.specs.declared.Settings.{Settings}
+use Rattle.terms.specs.Limits.{RULES, MARKS}
+use Rattle.terms.specs.Held.{Held, rulesIn}
 use Rattle.terms.specs.Lists.{limits}
 use Rattle.state.specs.declared.State.{State}
 use Rattle.state.specs.State.{heldOf, Counts-in}
 use Rattle.block.specs.declared.Loaded.{Loaded}
-use Rattle.block.specs.Layout.{ruleAt, markAt, tab}
-use Rattle.block.specs.Block.{HEADER, MARKS-AT, SIZE, encode, readHeld, sameBytes, good, Loaded-as}
+use Rattle.block.specs.Layout.{settingsAt, ruleAt, markAt, tab}
+use Rattle.block.specs.Block.{HEADER, RULE-BYTES, MARK-BYTES, MARKS-AT, SIZE, encode, readHeld, sameBytes, good, Loaded-as}
 use Rattle.block.specs.Places.{placeFrom, markFrom, Filled, Not-good}
 use Rattle.block.proofs.Tab.{map-tab, length-tab}
 use Rattle.block.proofs.Equal.{same-is}
@@ -27,14 +29,14 @@ not-back true c e = ap not e
 not-back false c e = ap not e
 
 module _ (b : List ℕ) where
-  pub too-many-rules : 128 < little 2 b 0 → limits (readHeld b) ≡ false
+  pub too-many-rules : RULES < little 2 b 0 → limits (readHeld b) ≡ false
   unfolding limits readHeld
-  too-many-rules h = rw (length-tab (λ i. ruleAt b (HEADER + 8 * i)) (little 2 b 0), lt-leb (little 2 b 0) 128 h)
+  too-many-rules h = rw (length-tab (λ i. ruleAt b (HEADER + RULE-BYTES * i)) (little 2 b 0), lt-leb (little 2 b 0) 128 h)
 
-  pub too-many-marks : little 2 b 0 ≤ 128 → 256 < little 2 b 2 → limits (readHeld b) ≡ false
+  pub too-many-marks : little 2 b 0 ≤ RULES → MARKS < little 2 b 2 → limits (readHeld b) ≡ false
   unfolding limits readHeld
   too-many-marks l h =
-      rw (length-tab (λ i. ruleAt b (HEADER + 8 * i)) (little 2 b 0), length-tab (λ i. markAt b (MARKS-AT + 8 * i)) (little 2 b 2), le-leb (little 2 b 0) 128 l, lt-leb (little 2 b 2) 256 h)
+      rw (length-tab (λ i. ruleAt b (HEADER + RULE-BYTES * i)) (little 2 b 0), length-tab (λ i. markAt b (MARKS-AT + MARK-BYTES * i)) (little 2 b 2), le-leb (little 2 b 0) 128 l, lt-leb (little 2 b 2) 256 h)
 
   pub not-good : (r : Loaded) → Not-good r → limits (readHeld b) ≡ false → Loaded-as b r
   unfolding good
@@ -42,19 +44,26 @@ module _ (b : List ℕ) where
 
 -- a state with the counts of a block and its places
 module _ (b : List ℕ) (s : State) (rule-count : s .«rule_count» ≡ little 2 b 0) (mark-count : s .«mark_count» ≡ little 2 b 2)
-    (rules : Filled 128 (s .«rule_count») (placeFrom b) (s .rules)) (marks : Filled 256 (s .«mark_count») (markFrom b) (s .marks)) where
+    (rules : Filled RULES (s .«rule_count») (placeFrom b) (s .rules)) (marks : Filled MARKS (s .«mark_count») (markFrom b) (s .marks))
+    (settings : s .settings ≡ settingsAt b) where
+  abbrev of-lists : List Rule → List Mark → Held
+  of-lists rs ms = record { rules = rs; marks = ms; settings = settingsAt b }
+
   pub held-in : heldOf s ≡ readHeld b
   unfolding readHeld rulesIn
   held-in =
-      ap (λ (x : List Rule). record { rules = x; marks = take (s .«mark_count») (s .marks); settings = tt })
-      (ap (map (λ p. p .rule)) (rules .first) ∙ map-tab (λ p. p .rule) (placeFrom b) (s .«rule_count») ∙ ap (tab (λ i. ruleAt b (HEADER + 8 * i))) rule-count)
-      ∙ ap (λ (y : List Mark). record { rules = tab (λ i. ruleAt b (HEADER + 8 * i)) (little 2 b 0); marks = y; settings = tt }) (marks .first ∙ ap (tab (markFrom b)) mark-count)
+      ap (λ (x : Settings). record { rules = map (λ p. p .rule) (take (s .«rule_count») (s .rules)); marks = take (s .«mark_count») (s .marks); settings = x }) settings
+      ∙ ap (λ (x : List Rule). of-lists x (take (s .«mark_count») (s .marks)))
+      (ap (map (λ p. p .rule)) (rules .first) ∙ map-tab (λ p. p .rule) (placeFrom b) (s .«rule_count») ∙ ap (tab (λ i. ruleAt b (HEADER + RULE-BYTES * i))) rule-count)
+      ∙ ap (of-lists (tab (λ i. ruleAt b (HEADER + RULE-BYTES * i)) (little 2 b 0))) (marks .first ∙ ap (tab (markFrom b)) mark-count)
 
-  pub counts-in : s .«rule_count» ≤ 128 → s .«mark_count» ≤ 256 → Counts-in s
+  pub counts-in : s .«rule_count» ≤ RULES → s .«mark_count» ≤ MARKS → Counts-in s
   counts-in h k = record { rule-places = rules .places; few-rules = h; mark-places = marks .places; few-marks = k }
 
   -- the comparison decides, once the limits are kept
-  pub loaded : Counts-in s → limits (heldOf s) ≡ true → (same : Bool) (copy z : List ℕ) → copy ≡ encode (heldOf s) ++ drop SIZE z → SIZE ≡ length z → (same ≡ true → copy ≡ take SIZE b) → (copy ≡ take SIZE b → same ≡ true) → Loaded-as b (record { good = same; state = s })
+  pub loaded :
+      Counts-in s → limits (heldOf s) ≡ true → (same : Bool) (copy z : List ℕ) → copy ≡ encode (heldOf s) ++ drop SIZE z → SIZE ≡ length z →
+      (same ≡ true → copy ≡ take SIZE b) → (copy ≡ take SIZE b → same ≡ true) → Loaded-as b (record { good = same; state = s })
   unfolding good
   loaded counts kept same copy z e n f g =
       let l : length z ≤ SIZE = omega arith in

@@ -1,7 +1,7 @@
 -- Parts laid over zeros are the block's bytes: each part that is laid is filled up with the zeros that stand behind it. Assumes nothing.
 use mathlib.Core.Path.{_≡_, sym, ap, _∙_}
 use mathlib.Core.List.{List, _++_, append-assoc, map}
-use Prim.Native.Nat.{ℕ, _+_, _-_, _≤_}
+use Prim.Native.Nat.{ℕ, _+_, _-_, _*_, _≤_}
 use native.Mathlib.Nat.{zero-add}
 use native.Mathlib.Omega.{arith}
 use lib.ListN.{length, take, drop, length-append, replicate-append-replicate, length-map}
@@ -10,14 +10,15 @@ use Rattle.codec.specs.Bytes.{put, bytes}
 use Rattle.codec.proofs.Laws.{put-put, length-bytes}
 use Rattle.terms.specs.declared.RulePlace.{RulePlace}
 use Rattle.terms.specs.declared.Mark.{Mark}
+use Rattle.terms.specs.Limits.{RULES, MARKS}
 use Rattle.terms.specs.Held.{rulesIn}
 use Rattle.state.specs.declared.State.{State}
 use Rattle.state.specs.State.{heldOf, Counts-in}
-use Rattle.block.specs.Layout.{ruleBytes, markBytes, cat, zeros}
-use Rattle.block.specs.Block.{HEADER, MARKS-AT, SIZE, padded, encode}
+use Rattle.block.specs.Layout.{settingsBytes, ruleBytes, markBytes, cat, zeros}
+use Rattle.block.specs.Block.{SETTINGS-AT, HEADER, RULE-BYTES, MARK-BYTES, MARKS-AT, SIZE, padded, encode}
 use Rattle.block.specs.Places.{placeBytesOf}
 use Rattle.block.proofs.Tab.{cat-map, length-cat}
-use Rattle.block.proofs.Sizes.{place-size, mark-size, length-zeros}
+use Rattle.block.proofs.Sizes.{settings-size, place-size, mark-size, length-zeros}
 
 pub zeros-add : (a b : ℕ) → zeros a ++ zeros b ≡ zeros (a + b)
 unfolding zeros
@@ -47,52 +48,90 @@ pad n k t x h =
     ∙ ap (λ (y : List ℕ). (x ++ zeros k) ++ y) (ap (λ (m : ℕ). zeros m ++ t) (sym f) ∙ sym (drop-zeros (length (x ++ zeros k)) n t g))
     ∙ sym (put-front l (x ++ zeros k))
 
--- the two counts, the rules and the marks over zeros
-module _ (t a b c d : List ℕ) (ha : length a ≡ 2) (hb : length b ≡ 2) (hc : length c ≤ 1024) (hd : length d ≤ 2048) where
+-- the two counts, the settings, the rules and the marks over zeros
+module _
+    (t a b e c d : List ℕ) (ha : length a ≡ 2) (hb : length b ≡ 2) (he : length e ≤ HEADER - SETTINGS-AT)
+    (hc : length c ≤ RULES * RULE-BYTES) (hd : length d ≤ MARKS * MARK-BYTES) where
   abbrev l : List ℕ
   l = zeros SIZE ++ t
 
   long : SIZE ≤ length l
   long = simp (length-append, length-zeros) (omega arith)
 
+  abbrev counts : List ℕ
+  counts = a ++ b
+
   abbrev header : List ℕ
-  header = a ++ b ++ zeros 28
+  header = (counts ++ e) ++ zeros (HEADER - SETTINGS-AT - length e)
 
   abbrev with-rules : List ℕ
-  with-rules = header ++ c ++ zeros (1024 - length c)
+  with-rules = (header ++ c) ++ zeros (RULES * RULE-BYTES - length c)
 
   abbrev whole : List ℕ
-  whole = with-rules ++ d ++ zeros (2048 - length d)
+  whole = (with-rules ++ d) ++ zeros (MARKS * MARK-BYTES - length d)
 
-  length-counts : length (a ++ b) ≡ 4
+  length-counts : length counts ≡ SETTINGS-AT
   length-counts = simp length-append (omega arith)
 
+  length-settings : length (counts ++ e) ≡ SETTINGS-AT + length e
+  length-settings = length-append counts e ∙ ap (λ (n : ℕ). n + length e) length-counts
+
   length-header : length header ≡ HEADER
-  length-header = simp (length-append, length-zeros) (omega arith)
+  length-header =
+      length-append (counts ++ e) (zeros (HEADER - SETTINGS-AT - length e))
+      ∙ omega (arith, he, length-settings, length-zeros (HEADER - SETTINGS-AT - length e))
 
   length-rules : length (header ++ c) ≡ HEADER + length c
   length-rules = length-append header c ∙ ap (λ (n : ℕ). n + length c) length-header
 
   length-with-rules : length with-rules ≡ MARKS-AT
-  length-with-rules = length-append (header ++ c) (zeros (1024 - length c)) ∙ omega (arith, length-rules, length-zeros (1024 - length c))
+  length-with-rules =
+      length-append (header ++ c) (zeros (RULES * RULE-BYTES - length c))
+      ∙ omega (arith, hc, length-rules, length-zeros (RULES * RULE-BYTES - length c))
 
   length-marks : length (with-rules ++ d) ≡ MARKS-AT + length d
   length-marks = length-append with-rules d ∙ ap (λ (n : ℕ). n + length d) length-with-rules
 
   length-whole : length whole ≡ SIZE
-  length-whole = length-append (with-rules ++ d) (zeros (2048 - length d)) ∙ omega (arith, length-marks, length-zeros (2048 - length d))
+  length-whole =
+      length-append (with-rules ++ d) (zeros (MARKS * MARK-BYTES - length d))
+      ∙ omega (arith, hd, length-marks, length-zeros (MARKS * MARK-BYTES - length d))
 
-  all : put (put (put (put l 0 a) 2 b) HEADER c) MARKS-AT d ≡ put l 0 whole
+  laid-counts : put (put l 0 a) 2 b ≡ put l 0 counts
+  laid-counts = put-put l 0 2 a b (omega arith) (omega (arith, long))
+
+  laid-settings : put (put l 0 counts) SETTINGS-AT e ≡ put l 0 header
+  laid-settings =
+      put-put l 0 SETTINGS-AT counts e (omega (arith, length-counts)) (omega (arith, long))
+      ∙ pad SIZE (HEADER - SETTINGS-AT - length e) t (counts ++ e) (omega (arith, he, length-settings))
+
+  laid-rules : put (put l 0 header) HEADER c ≡ put l 0 with-rules
+  laid-rules =
+      put-put l 0 HEADER header c (omega (arith, length-header)) (omega (arith, long))
+      ∙ pad SIZE (RULES * RULE-BYTES - length c) t (header ++ c) (omega (arith, hc, length-rules))
+
+  laid-marks : put (put l 0 with-rules) MARKS-AT d ≡ put l 0 whole
+  laid-marks =
+      put-put l 0 MARKS-AT with-rules d (omega (arith, length-with-rules)) (omega (arith, long))
+      ∙ pad SIZE (MARKS * MARK-BYTES - length d) t (with-rules ++ d) (omega (arith, hd, length-marks))
+
+  abbrev laid : List ℕ
+  laid = put (put (put (put (put l 0 a) 2 b) SETTINGS-AT e) HEADER c) MARKS-AT d
+
+  abbrev joined : List ℕ
+  joined = a ++ (b ++ (padded (HEADER - SETTINGS-AT) e ++ (padded (RULES * RULE-BYTES) c ++ padded (MARKS * MARK-BYTES) d)))
+
+  all : laid ≡ put l 0 whole
   all =
-      ap (λ (y : List ℕ). put (put y HEADER c) MARKS-AT d) (put-put l 0 2 a b (omega arith) (omega (arith, long)) ∙ pad SIZE 28 t (a ++ b) (omega (arith, length-counts)))
-      ∙ ap (λ (y : List ℕ). put y MARKS-AT d) (put-put l 0 HEADER header c (omega (arith, length-header)) (omega (arith, long)) ∙ pad SIZE (1024 - length c) t (header ++ c) (omega (arith, length-rules)))
-      ∙ put-put l 0 MARKS-AT with-rules d (omega (arith, length-with-rules)) (omega (arith, long))
-      ∙ pad SIZE (2048 - length d) t (with-rules ++ d) (omega (arith, length-marks))
+      ap (λ (y : List ℕ). put (put (put y SETTINGS-AT e) HEADER c) MARKS-AT d) laid-counts
+      ∙ ap (λ (y : List ℕ). put (put y HEADER c) MARKS-AT d) laid-settings
+      ∙ ap (λ (y : List ℕ). put y MARKS-AT d) laid-rules
+      ∙ laid-marks
 
-  regroup : whole ≡ a ++ (b ++ (zeros 28 ++ (padded 1024 c ++ padded 2048 d)))
+  regroup : whole ≡ joined
   regroup = simp append-assoc
 
-  packed : put (put (put (put l 0 a) 2 b) HEADER c) MARKS-AT d ≡ (a ++ (b ++ (zeros 28 ++ (padded 1024 c ++ padded 2048 d)))) ++ t
+  packed : laid ≡ joined ++ t
   packed =
       all
       ∙ put-front l whole
@@ -114,27 +153,42 @@ module _ (s : State) (in-places : Counts-in s) where
   marks-many : length marks ≡ s .«mark_count»
   marks-many = length-take-le (s .«mark_count») (s .marks) (omega (arith, in-places .mark-places, in-places .few-marks))
 
-  places-fit : length (cat placeBytesOf places) ≤ 1024
+  places-fit : length (cat placeBytesOf places) ≤ RULES * RULE-BYTES
   places-fit = omega (arith, length-cat placeBytesOf 8 place-size places, places-many, in-places .few-rules)
 
-  marks-fit : length (cat markBytes marks) ≤ 2048
+  marks-fit : length (cat markBytes marks) ≤ MARKS * MARK-BYTES
   marks-fit = omega (arith, length-cat markBytes 8 mark-size marks, marks-many, in-places .few-marks)
 
-  encoded : encode (heldOf s) ≡ bytes 2 (s .«rule_count») ++ (bytes 2 (s .«mark_count») ++ (zeros 28 ++ (padded 1024 (cat placeBytesOf places) ++ padded 2048 (cat markBytes marks))))
+  abbrev set : List ℕ
+  set = settingsBytes (s .settings)
+
+  abbrev of-parts : ℕ → ℕ → List ℕ → List ℕ
+  of-parts n m x =
+      bytes 2 n ++ (bytes 2 m ++ (padded (HEADER - SETTINGS-AT) set ++ (padded (RULES * RULE-BYTES) x ++ padded (MARKS * MARK-BYTES) (cat markBytes marks))))
+
+  encoded : encode (heldOf s) ≡ of-parts (s .«rule_count») (s .«mark_count») (cat placeBytesOf places)
   unfolding encode rulesIn
   encoded =
-      ap (λ (n : ℕ). bytes 2 n ++ (bytes 2 (length marks) ++ (zeros 28 ++ (padded 1024 (cat ruleBytes (map (λ p. p .rule) places)) ++ padded 2048 (cat markBytes marks))))) (length-map places (λ p. p .rule) ∙ places-many)
-      ∙ ap (λ (n : ℕ). bytes 2 (s .«rule_count») ++ (bytes 2 n ++ (zeros 28 ++ (padded 1024 (cat ruleBytes (map (λ p. p .rule) places)) ++ padded 2048 (cat markBytes marks))))) marks-many
-      ∙ ap (λ (x : List ℕ). bytes 2 (s .«rule_count») ++ (bytes 2 (s .«mark_count») ++ (zeros 28 ++ (padded 1024 x ++ padded 2048 (cat markBytes marks))))) (cat-map ruleBytes (λ p. p .rule) places)
+      let rules = cat ruleBytes (map (λ p. p .rule) places) in
+      ap (λ (n : ℕ). of-parts n (length marks) rules) (length-map places (λ p. p .rule) ∙ places-many)
+      ∙ ap (λ (n : ℕ). of-parts (s .«rule_count») n rules) marks-many
+      ∙ ap (of-parts (s .«rule_count») (s .«mark_count»)) (cat-map ruleBytes (λ p. p .rule) places)
 
   -- the stores one after the other
-  pub stored : (t l1 l2 l3 l4 l5 : List ℕ) → l1 ≡ zeros SIZE ++ t → l2 ≡ put l1 0 (bytes 2 (s .«rule_count»)) → l3 ≡ put l2 2 (bytes 2 (s .«mark_count»)) → l4 ≡ put l3 HEADER (cat placeBytesOf places) → l5 ≡ put l4 MARKS-AT (cat markBytes marks) → l5 ≡ encode (heldOf s) ++ t
-  stored t l1 l2 l3 l4 l5 e1 e2 e3 e4 e5 =
+  pub stored :
+      (t l1 l2 l3 l4 l5 l6 : List ℕ) → l1 ≡ zeros SIZE ++ t → l2 ≡ put l1 0 (bytes 2 (s .«rule_count»)) →
+      l3 ≡ put l2 2 (bytes 2 (s .«mark_count»)) → l4 ≡ put l3 SETTINGS-AT set →
+      l5 ≡ put l4 HEADER (cat placeBytesOf places) → l6 ≡ put l5 MARKS-AT (cat markBytes marks) →
+      l6 ≡ encode (heldOf s) ++ t
+  stored t l1 l2 l3 l4 l5 l6 e1 e2 e3 e4 e5 e6 =
       let a : List ℕ = bytes 2 (s .«rule_count») in
       let b : List ℕ = bytes 2 (s .«mark_count») in
       let c : List ℕ = cat placeBytesOf places in
       let d : List ℕ = cat markBytes marks in
-      e5
-      ∙ ap (λ (y : List ℕ). put y MARKS-AT d) (e4 ∙ ap (λ (y : List ℕ). put y HEADER c) (e3 ∙ ap (λ (y : List ℕ). put y 2 b) (e2 ∙ ap (λ (y : List ℕ). put y 0 a) e1)))
-      ∙ packed t a b c d (length-bytes 2 _) (length-bytes 2 _) places-fit marks-fit
+      let f3 = e3 ∙ ap (λ (y : List ℕ). put y 2 b) (e2 ∙ ap (λ (y : List ℕ). put y 0 a) e1) in
+      let f4 = e4 ∙ ap (λ (y : List ℕ). put y SETTINGS-AT set) f3 in
+      let f5 = e5 ∙ ap (λ (y : List ℕ). put y HEADER c) f4 in
+      e6
+      ∙ ap (λ (y : List ℕ). put y MARKS-AT d) f5
+      ∙ packed t a b set c d (length-bytes 2 _) (length-bytes 2 _) (settings-size (s .settings)) places-fit marks-fit
       ∙ ap (λ (y : List ℕ). y ++ t) (sym encoded)

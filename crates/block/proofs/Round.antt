@@ -5,9 +5,8 @@ use mathlib.Core.List.{List, [], _∷_, _++_, append-assoc}
 use Prim.Native.Nat.{ℕ, zero, suc, _+_, _-_, _*_, _^_, _≤_, _<_}
 use native.Mathlib.Nat.{not-suc-le-zero, le-of-suc-le-suc}
 use native.Mathlib.Omega.{arith}
-use lib.Dec.{T, leb, leb→le, lit<}
-use lib.IntN.{ℤ, pos, negsuc}
-use lib.Signed.{_≤ℤ_, leZ, leZ-yes}
+use lib.Dec.{T, lit<}
+use lib.IntN.{ℤ}
 use lib.ListN.{length, getD, take, length-append, List·getD-append}
 use lib.Seq.{getD-append-add, take-at}
 use mir.Syntax.{w32}
@@ -16,35 +15,71 @@ use mir.ValLaws.{ofZ-fits, toZ-ofZ}
 use Rattle.codec.specs.Bytes.{little, bytes}
 use Rattle.codec.proofs.Laws.{little-same, little-bytes, length-bytes}
 use Rattle.terms.specs.declared.Operator.{Operator}
-use Rattle.terms.specs.declared.Operator.the-variants.{Within, Between, Above, Below, Anywhere}
 use Rattle.terms.specs.declared.Rule.{Rule}
 use Rattle.terms.specs.declared.Rule.the-variants.{Label, Both, Link, Via}
 use Rattle.terms.specs.declared.Atom.{Atom}
 use Rattle.terms.specs.declared.Atom.the-variants.{Has, Linked}
 use Rattle.terms.specs.declared.Mark.{Mark}
-use Rattle.terms.specs.Order.{ints}
 use Rattle.terms.specs.Tests.{and-both, true-of}
-use Rattle.terms.specs.Limits.{RULES, MARKS, DEPTHS, WITHIN-MOST, SHALLOWEST, DEEPEST, isLeft, isConcluded, isKind, isDepth}
-use Rattle.terms.specs.Operators.{operatorOf, codeOf, distanceOf, isDistance, isOperator}
-use Rattle.terms.specs.Held.{Held, emptyMark, isRule, isMarkable, isMark}
-use Rattle.terms.specs.Same.{sameRule, sameMark}
-use Rattle.terms.specs.Lists.{every, once, depthCount, limits}
+use Rattle.terms.specs.declared.Settings.{Settings}
+use Rattle.terms.specs.Limits.{RULES, MARKS, isDepth}
+use Rattle.terms.specs.Operators.{operatorOf, codeOf, distanceOf, isOperator, orIdentity}
+use Rattle.terms.specs.Readings.{operator-read, distance-fits, depth-fits}
+use Rattle.terms.specs.Held.{Held, emptyMark, isNamed, isRule, isMarkable, isMark}
+use Rattle.terms.specs.Lists.{every, limits}
+use Rattle.terms.specs.Limited.{Limited, limited}
 use Rattle.state.specs.Changes.{emptyHeld}
-use Rattle.block.specs.Layout.{orBetween, placeBytes, ruleBytes, ruleOf, ruleAt, markBytesOf, atomBytes, markBytes, markOf, markAt, tab, cat, zeros}
-use Rattle.block.specs.Block.{HEADER, MARKS-AT, SIZE, padded, encode, readHeld, sameBytes, unreadable, holds, good, decode}
+use Rattle.block.specs.Layout.{
+  settingsBytes,
+  settingsAt,
+  placeBytes,
+  ruleBytes,
+  ruleOf,
+  ruleAt,
+  markBytesOf,
+  atomBytes,
+  markBytes,
+  markOf,
+  markAt,
+  tab,
+  cat,
+  zeros,
+}
+use Rattle.block.specs.Block.{
+  SETTINGS-AT,
+  HEADER,
+  RULE-BYTES,
+  MARK-BYTES,
+  MARKS-AT,
+  SIZE,
+  padded,
+  encode,
+  readHeld,
+  sameBytes,
+  unreadable,
+  holds,
+  good,
+  decode,
+}
 use Rattle.block.proofs.Tab.{tab-is, cat-get, length-cat}
-use Rattle.block.proofs.Sizes.{rule-size, mark-size, length-zeros, length-padded}
+use Rattle.block.proofs.Sizes.{settings-size, rule-size, mark-size, length-zeros, length-padded}
 use Rattle.block.proofs.Pack.{zeros-add}
 use Rattle.block.proofs.Equal.{sameBytes-refl, sameBytes-true}
 
 -- a block's bytes are as many as its size
-pub length-encode : (h : Held) → length (h .rules) ≤ 128 → length (h .marks) ≤ 256 → length (encode h) ≡ SIZE
+pub length-encode : (h : Held) → length (h .rules) ≤ RULES → length (h .marks) ≤ MARKS → length (encode h) ≡ SIZE
 unfolding encode
 length-encode h few-rules few-marks =
-    let r : length (padded 1024 (cat ruleBytes (h .rules))) ≡ 1024 = length-padded 1024 (cat ruleBytes (h .rules)) (omega (arith, length-cat ruleBytes 8 rule-size (h .rules))) in
-    let m : length (padded 2048 (cat markBytes (h .marks))) ≡ 2048 = length-padded 2048 (cat markBytes (h .marks)) (omega (arith, length-cat markBytes 8 mark-size (h .marks))) in
-    let p : length (padded 1024 (cat ruleBytes (h .rules)) ++ padded 2048 (cat markBytes (h .marks))) ≡ 3072 = length-append (padded 1024 (cat ruleBytes (h .rules))) (padded 2048 (cat markBytes (h .marks))) ∙ omega arith in
-    rw (length-append (bytes 2 (length (h .rules))), length-append (bytes 2 (length (h .marks))), length-append (zeros 28), p, length-bytes, length-bytes, length-zeros)
+    let settings = padded (HEADER - SETTINGS-AT) (settingsBytes (h .settings)) in
+    let rules = padded (RULES * RULE-BYTES) (cat ruleBytes (h .rules)) in
+    let marks = padded (MARKS * MARK-BYTES) (cat markBytes (h .marks)) in
+    let s : length settings ≡ HEADER - SETTINGS-AT = length-padded (HEADER - SETTINGS-AT) (settingsBytes (h .settings)) (settings-size (h .settings)) in
+    let r : length rules ≡ RULES * RULE-BYTES =
+    length-padded (RULES * RULE-BYTES) (cat ruleBytes (h .rules)) (omega (arith, length-cat ruleBytes 8 rule-size (h .rules))) in
+    let m : length marks ≡ MARKS * MARK-BYTES =
+    length-padded (MARKS * MARK-BYTES) (cat markBytes (h .marks)) (omega (arith, length-cat markBytes 8 mark-size (h .marks))) in
+    let p : length (rules ++ marks) ≡ SIZE - HEADER = length-append rules marks ∙ omega arith in
+    rw (length-append (bytes 2 (length (h .rules))), length-append (bytes 2 (length (h .marks))), length-append settings, p, s, length-bytes, length-bytes)
 
 no-count : bytes 2 0 ≡ zeros 2
 unfolding bytes zeros
@@ -63,43 +98,8 @@ every-at f [] d t i h = absurd (not-suc-le-zero h)
 every-at f (x ∷ xs) d t zero h = and-both (f x) (every f xs) t .0
 every-at f (x ∷ xs) d t (suc i) h = every-at f xs d (and-both (f x) (every f xs) t .1) i (le-of-suc-le-suc h)
 
--- the limits that the bytes lean on
-pub record Kept (h : Held) : Type 0 where
-  pub few-rules : length (h .rules) ≤ 128
-  pub few-marks : length (h .marks) ≤ 256
-  pub rules : T (every isRule (h .rules))
-  pub marks : T (every isMark (h .marks))
-
-pub kept : (h : Held) → T (limits h) → Kept h
-unfolding limits
-kept h t =
-    let rs = h .rules in
-    let ms = h .marks in
-    let alone : Bool = once sameRule rs && once sameMark ms in
-    let a = and-both (leb (length rs) RULES) (leb (length ms) MARKS && (leb (depthCount ms) DEPTHS && (every isRule rs && (every isMark ms && alone)))) t in
-    let b = and-both (leb (length ms) MARKS) (leb (depthCount ms) DEPTHS && (every isRule rs && (every isMark ms && alone))) (a .1) in
-    let c = and-both (leb (depthCount ms) DEPTHS) (every isRule rs && (every isMark ms && alone)) (b .1) in
-    let d = and-both (every isRule rs) (every isMark ms && alone) (c .1) in
-    let e = and-both (every isMark ms) alone (d .1) in
-    record { few-rules = leb→le (length rs) RULES (a .0); few-marks = leb→le (length ms) MARKS (b .0); rules = d .0; marks = e .0 }
-
-operator-back : (o : Operator) → T (isOperator o) → orBetween (operatorOf (codeOf o) (distanceOf o)) ≡ o
-operator-back (Within n) t = rw (true-of (isDistance n) t)
-operator-back Between t = refl
-operator-back Above t = refl
-operator-back Below t = refl
-operator-back Anywhere t = refl
-
-distance-fits : (o : Operator) → T (isOperator o) → distanceOf o < 256 ^ 4
-distance-fits (Within n) t = omega (arith, leb→le n WITHIN-MOST (and-both (leb 1 n) (leb n WITHIN-MOST) t .1))
-distance-fits Between t = omega arith
-distance-fits Above t = omega arith
-distance-fits Below t = omega arith
-distance-fits Anywhere t = omega arith
-
-depth-fits : (z : ℤ) → T (isDepth z) → SFits w32 z
-depth-fits (pos n) t = let l : pos n ≤ℤ DEEPEST = leZ-yes (and-both (leZ SHALLOWEST (pos n)) (leZ (pos n) DEEPEST) t .1) in record { sfits = omega ints }
-depth-fits (negsuc n) t = let l : SHALLOWEST ≤ℤ negsuc n = leZ-yes (and-both (leZ SHALLOWEST (negsuc n)) (leZ (negsuc n) DEEPEST) t .0) in record { sfits = omega ints }
+operator-back : (o : Operator) → T (isOperator o) → orIdentity (operatorOf (codeOf o) (distanceOf o)) ≡ o
+operator-back o t = ap orIdentity (operator-read o t)
 
 -- ---- a place
 
@@ -129,11 +129,11 @@ module _ (s : List ℕ) (at k a b c n : ℕ) (fits : n < 256 ^ 4) (h : Stands s 
 rule-back : (s : List ℕ) (at : ℕ) (ρ : Rule) → T (isRule ρ) → Stands s at (ruleBytes ρ) → ruleAt s at ≡ ρ
 unfolding placeBytes ruleOf
 rule-back s at (Label o A B) t h =
-    let w = and-both (isOperator o) (isLeft A && isConcluded B) t .0 in
+    let w = and-both (isOperator o) (isNamed (Label o A B)) t .0 in
     rule-place s at 2 (codeOf o) A B (distanceOf o) (distance-fits o w) h ∙ ap (λ (x : Operator). Label x A B) (operator-back o w)
 rule-back s at (Both A B C) t h = rule-place s at 3 A B C 0 (omega arith) h
 rule-back s at (Link o r s′) t h =
-    let w = and-both (isOperator o) (isKind r && isKind s′) t .0 in
+    let w = and-both (isOperator o) (isNamed (Link o r s′)) t .0 in
     rule-place s at 4 (codeOf o) r s′ (distanceOf o) (distance-fits o w) h ∙ ap (λ (x : Operator). Link x r s′) (operator-back o w)
 rule-back s at (Via r A B) t h = rule-place s at 5 r A B 0 (omega arith) h
 
@@ -159,14 +159,14 @@ count-back k x n p q e h =
 -- ---- the whole block
 
 module _ (h : Held) (within : T (limits h)) (t : List ℕ) where
-  abbrev k : Kept h
-  k = kept h within
+  abbrev k : Limited h
+  k = limited h within
 
   abbrev block : List ℕ
   block = encode h ++ t
 
   abbrev front : List ℕ
-  front = bytes 2 (length (h .rules)) ++ (bytes 2 (length (h .marks)) ++ zeros 28)
+  front = bytes 2 (length (h .rules)) ++ (bytes 2 (length (h .marks)) ++ padded (HEADER - SETTINGS-AT) (settingsBytes (h .settings)))
 
   abbrev rule-bytes : List ℕ
   rule-bytes = cat ruleBytes (h .rules)
@@ -175,44 +175,49 @@ module _ (h : Held) (within : T (limits h)) (t : List ℕ) where
   mark-bytes = cat markBytes (h .marks)
 
   abbrev behind-marks : List ℕ
-  behind-marks = zeros (2048 - length mark-bytes) ++ t
+  behind-marks = zeros (MARKS * MARK-BYTES - length mark-bytes) ++ t
 
   abbrev behind-rules : List ℕ
-  behind-rules = zeros (1024 - length rule-bytes) ++ (mark-bytes ++ behind-marks)
+  behind-rules = zeros (RULES * RULE-BYTES - length rule-bytes) ++ (mark-bytes ++ behind-marks)
+
+  abbrev head : List ℕ
+  head = front ++ padded (RULES * RULE-BYTES) rule-bytes
 
   to-rules : block ≡ front ++ (rule-bytes ++ behind-rules)
   unfolding encode
   to-rules = simp append-assoc
 
-  to-marks : block ≡ (front ++ padded 1024 rule-bytes) ++ (mark-bytes ++ behind-marks)
+  to-marks : block ≡ head ++ (mark-bytes ++ behind-marks)
   unfolding encode
   to-marks = simp append-assoc
 
   length-front : length front ≡ HEADER
-  length-front = simp (length-append, length-bytes, length-zeros)
+  length-front =
+      let s = length-padded (HEADER - SETTINGS-AT) (settingsBytes (h .settings)) (settings-size (h .settings)) in
+      rw (length-append (bytes 2 (length (h .rules))), length-append (bytes 2 (length (h .marks))), s, length-bytes, length-bytes)
 
-  length-head : length (front ++ padded 1024 rule-bytes) ≡ MARKS-AT
+  length-head : length head ≡ MARKS-AT
   length-head =
-      length-append front (padded 1024 rule-bytes)
-      ∙ omega (arith, length-front, length-padded 1024 rule-bytes (omega (arith, k .few-rules, length-cat ruleBytes 8 rule-size (h .rules))))
+      length-append front (padded (RULES * RULE-BYTES) rule-bytes)
+      ∙ omega (arith, length-front, length-padded (RULES * RULE-BYTES) rule-bytes (omega (arith, k .few-rules, length-cat ruleBytes 8 rule-size (h .rules))))
 
-  rule-stands : (i : ℕ) (d : Rule) → i < length (h .rules) → Stands block (HEADER + 8 * i) (ruleBytes (getD (h .rules) i d))
+  rule-stands : (i : ℕ) (d : Rule) → i < length (h .rules) → Stands block (HEADER + RULE-BYTES * i) (ruleBytes (getD (h .rules) i d))
   rule-stands i d l = record {
     same = λ j m.
-        let z : HEADER + 8 * i + j ≡ length front + (8 * i + j) = omega (arith, length-front) in
-        ap (λ (x : List ℕ). getD x (HEADER + 8 * i + j) 0) to-rules
+        let z : HEADER + RULE-BYTES * i + j ≡ length front + (8 * i + j) = omega (arith, length-front) in
+        ap (λ (x : List ℕ). getD x (HEADER + RULE-BYTES * i + j) 0) to-rules
         ∙ ap (λ (n : ℕ). getD (front ++ (rule-bytes ++ behind-rules)) n 0) z
         ∙ getD-append-add front (rule-bytes ++ behind-rules) (8 * i + j) 0
         ∙ cat-get ruleBytes 8 rule-size (h .rules) behind-rules i j d l m;
   }
 
-  mark-stands : (i : ℕ) (d : Mark) → i < length (h .marks) → Stands block (MARKS-AT + 8 * i) (markBytes (getD (h .marks) i d))
+  mark-stands : (i : ℕ) (d : Mark) → i < length (h .marks) → Stands block (MARKS-AT + MARK-BYTES * i) (markBytes (getD (h .marks) i d))
   mark-stands i d l = record {
     same = λ j m.
-        let z : MARKS-AT + 8 * i + j ≡ length (front ++ padded 1024 rule-bytes) + (8 * i + j) = omega (arith, length-head) in
-        ap (λ (x : List ℕ). getD x (MARKS-AT + 8 * i + j) 0) to-marks
-        ∙ ap (λ (n : ℕ). getD ((front ++ padded 1024 rule-bytes) ++ (mark-bytes ++ behind-marks)) n 0) z
-        ∙ getD-append-add (front ++ padded 1024 rule-bytes) (mark-bytes ++ behind-marks) (8 * i + j) 0
+        let z : MARKS-AT + MARK-BYTES * i + j ≡ length head + (8 * i + j) = omega (arith, length-head) in
+        ap (λ (x : List ℕ). getD x (MARKS-AT + MARK-BYTES * i + j) 0) to-marks
+        ∙ ap (λ (n : ℕ). getD (head ++ (mark-bytes ++ behind-marks)) n 0) z
+        ∙ getD-append-add head (mark-bytes ++ behind-marks) (8 * i + j) 0
         ∙ cat-get markBytes 8 mark-size (h .marks) behind-marks i j d l m;
   }
 
@@ -223,18 +228,42 @@ module _ (h : Held) (within : T (limits h)) (t : List ℕ) where
   mark-count : little 2 block 2 ≡ length (h .marks)
   unfolding encode
   mark-count =
-      rw (append-assoc, append-assoc) (count-back 2 (length (h .marks)) 2 (bytes 2 (length (h .rules))) _ (length-bytes 2 (length (h .rules))) (omega (arith, k .few-marks)))
+      rw (append-assoc, append-assoc)
+      (count-back 2 (length (h .marks)) 2 (bytes 2 (length (h .rules))) _ (length-bytes 2 (length (h .rules))) (omega (arith, k .few-marks)))
+
+  -- the settings are read back
+  settings-back : settingsAt block ≡ h .settings
+  settings-back = refl
+
+  none : Rule
+  none = Both 0 0 0
+
+  abbrev rulesRead : ℕ → List Rule
+  rulesRead n = tab (λ i. ruleAt block (HEADER + RULE-BYTES * i)) n
+
+  abbrev marksRead : ℕ → List Mark
+  marksRead n = tab (λ i. markAt block (MARKS-AT + MARK-BYTES * i)) n
+
+  rules-back : rulesRead (length (h .rules)) ≡ h .rules
+  rules-back =
+      tab-is (λ i. ruleAt block (HEADER + RULE-BYTES * i)) (h .rules) none
+      (λ i l. rule-back block (HEADER + RULE-BYTES * i) (getD (h .rules) i none) (every-at isRule (h .rules) none (k .rules) i l) (rule-stands i none l))
+
+  marks-back : marksRead (length (h .marks)) ≡ h .marks
+  marks-back =
+      tab-is (λ i. markAt block (MARKS-AT + MARK-BYTES * i)) (h .marks) emptyMark
+      (λ i l. mark-back block (MARKS-AT + MARK-BYTES * i) (getD (h .marks) i emptyMark) (every-at isMark (h .marks) emptyMark (k .marks) i l) (mark-stands i emptyMark l))
+
+  abbrev of-parts : List Rule → List Mark → Settings → Held
+  of-parts rs ms σ = record { rules = rs; marks = ms; settings = σ }
 
   -- what is encoded is read back
   pub read-encode : readHeld block ≡ h
   unfolding readHeld
   read-encode =
-      ap (λ (n : ℕ). record { rules = tab (λ i. ruleAt block (HEADER + 8 * i)) n; marks = tab (λ i. markAt block (MARKS-AT + 8 * i)) (little 2 block 2); settings = tt }) rule-count
-      ∙ ap (λ (n : ℕ). record { rules = tab (λ i. ruleAt block (HEADER + 8 * i)) (length (h .rules)); marks = tab (λ i. markAt block (MARKS-AT + 8 * i)) n; settings = tt }) mark-count
-      ∙ ap (λ (x : List Rule). record { rules = x; marks = tab (λ i. markAt block (MARKS-AT + 8 * i)) (length (h .marks)); settings = tt })
-      (tab-is (λ i. ruleAt block (HEADER + 8 * i)) (h .rules) (Both 0 0 0) (λ i l. rule-back block (HEADER + 8 * i) (getD (h .rules) i (Both 0 0 0)) (every-at isRule (h .rules) (Both 0 0 0) (k .rules) i l) (rule-stands i (Both 0 0 0) l)))
-      ∙ ap (λ (y : List Mark). record { rules = h .rules; marks = y; settings = tt })
-      (tab-is (λ i. markAt block (MARKS-AT + 8 * i)) (h .marks) emptyMark (λ i l. mark-back block (MARKS-AT + 8 * i) (getD (h .marks) i emptyMark) (every-at isMark (h .marks) emptyMark (k .marks) i l) (mark-stands i emptyMark l)))
+      ap (λ (rs : List Rule). of-parts rs (marksRead (little 2 block 2)) (settingsAt block)) (ap rulesRead rule-count ∙ rules-back)
+      ∙ ap (λ (ms : List Mark). of-parts (h .rules) ms (settingsAt block)) (ap marksRead mark-count ∙ marks-back)
+      ∙ ap (of-parts (h .rules) (h .marks)) settings-back
 
   good-encode : good block ≡ true
   unfolding good

@@ -1,7 +1,7 @@
--- Each place is 8 bytes, by its cases; and zeros are as many as they say. Assumes nothing.
+-- The settings fit the header; each place is 8 bytes, by its cases; and zeros are as many as they say. Assumes nothing.
 use mathlib.Core.Path.{_≡_, refl}
 use mathlib.Core.List.{List}
-use Prim.Native.Nat.{ℕ, _≤_}
+use Prim.Native.Nat.{ℕ, _-_, _≤_}
 use native.Mathlib.Omega.{arith}
 use lib.IntN.{ℤ}
 use lib.ListN.{length, length-append, length-replicate}
@@ -12,9 +12,13 @@ use Rattle.terms.specs.declared.RulePlace.{RulePlace}
 use Rattle.terms.specs.declared.Atom.{Atom}
 use Rattle.terms.specs.declared.Atom.the-variants.{Has, Linked}
 use Rattle.terms.specs.declared.Mark.{Mark}
-use Rattle.block.specs.Layout.{placeBytes, ruleBytes, markBytesOf, atomBytes, markBytes, zeros}
-use Rattle.block.specs.Block.{padded}
+use Rattle.terms.specs.declared.Settings.{Settings}
+use Rattle.block.specs.Layout.{settingsBytes, placeBytes, ruleBytes, markBytesOf, atomBytes, markBytes, zeros}
+use Rattle.block.specs.Block.{SETTINGS-AT, HEADER, padded}
 use Rattle.block.specs.Places.{placeBytesOf}
+
+pub settings-size : (σ : Settings) → length (settingsBytes σ) ≤ HEADER - SETTINGS-AT
+settings-size σ = omega arith
 
 pub rule-size : (ρ : Rule) → length (ruleBytes ρ) ≡ 8
 unfolding placeBytes bytes

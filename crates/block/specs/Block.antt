@@ -6,35 +6,52 @@ use Prim.Native.Nat.{ℕ, _+_, _-_, _*_}
 use lib.Dec.{eqb}
 use lib.ListN.{length, take}
 use Rattle.codec.specs.Bytes.{little, bytes}
+use Rattle.terms.specs.Limits.{RULES, MARKS}
 use Rattle.terms.specs.Held.{Held}
 use Rattle.terms.specs.Lists.{limits}
 use Rattle.state.specs.State.{heldOf, Counts-in}
 use Rattle.block.specs.declared.Loaded.{Loaded}
-use Rattle.block.specs.Layout.{ruleBytes, ruleAt, markBytes, markAt, tab, cat, zeros}
+use Rattle.block.specs.Layout.{settingsBytes, settingsAt, ruleBytes, ruleAt, markBytes, markAt, tab, cat, zeros}
 
 -- 01, State and tables: the block's fixed size; a header, the rule places, the mark places
+abbrev pub SETTINGS-AT : ℕ
+SETTINGS-AT = 4
+
 abbrev pub HEADER : ℕ
 HEADER = 32
 
+abbrev pub RULE-BYTES : ℕ
+RULE-BYTES = 8
+
+abbrev pub MARK-BYTES : ℕ
+MARK-BYTES = 8
+
 abbrev pub MARKS-AT : ℕ
-MARKS-AT = 1056
+MARKS-AT = HEADER + RULES * RULE-BYTES
 
 abbrev pub SIZE : ℕ
-SIZE = 3104
+SIZE = MARKS-AT + MARKS * MARK-BYTES
 
 -- xs with zero bytes behind it, k in all
 abbrev pub padded : ℕ → List ℕ → List ℕ
 padded k xs = xs ++ zeros (k - length xs)
 
--- docs/STATE.md: how many rules and marks, 28 zero bytes, the rules, the marks; free places are zero bytes
+-- docs/STATE.md: how many rules and marks, the settings, the rules, the marks; what is free is zero bytes
 unfoldable pub encode : Held → List ℕ
 encode h =
     bytes 2 (length (h .rules))
-    ++ (bytes 2 (length (h .marks)) ++ (zeros 28 ++ (padded 1024 (cat ruleBytes (h .rules)) ++ padded 2048 (cat markBytes (h .marks)))))
+    ++ (bytes 2 (length (h .marks))
+    ++ (padded (HEADER - SETTINGS-AT) (settingsBytes (h .settings))
+    ++ (padded (RULES * RULE-BYTES) (cat ruleBytes (h .rules))
+    ++ padded (MARKS * MARK-BYTES) (cat markBytes (h .marks)))))
 
--- what the counts and places of a block give
+-- what the counts, places and settings of a block give
 unfoldable pub readHeld : List ℕ → Held
-readHeld b = record { rules = tab (λ i. ruleAt b (HEADER + 8 * i)) (little 2 b 0); marks = tab (λ i. markAt b (MARKS-AT + 8 * i)) (little 2 b 2); settings = tt }
+readHeld b = record {
+  rules = tab (λ i. ruleAt b (HEADER + RULE-BYTES * i)) (little 2 b 0);
+  marks = tab (λ i. markAt b (MARKS-AT + MARK-BYTES * i)) (little 2 b 2);
+  settings = settingsAt b;
+}
 
 unfoldable pub sameBytes : List ℕ → List ℕ → Bool
 sameBytes [] [] = true

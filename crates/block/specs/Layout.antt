@@ -11,8 +11,9 @@ use Rattle.terms.specs.declared.Rule.the-variants.{Label, Both, Link, Via}
 use Rattle.terms.specs.declared.Atom.{Atom}
 use Rattle.terms.specs.declared.Atom.the-variants.{Has, Linked}
 use Rattle.terms.specs.declared.Mark.{Mark}
-pub use Rattle.terms.specs.Operators.{orBetween}
-use Rattle.terms.specs.Operators.{operatorOf, codeOf, distanceOf}
+use Rattle.terms.specs.declared.Settings.{Settings}
+use Rattle.terms.specs.Operators.{operatorOf, codeOf, distanceOf, orIdentity}
+use Rattle.terms.specs.Held.{freshSettings}
 
 -- docs/STATE.md, a rule place: kind, three fields, n
 unfoldable pub placeBytes : ℕ → ℕ → ℕ → ℕ → ℕ → List ℕ
@@ -26,9 +27,9 @@ ruleBytes (Via r A B) = placeBytes 5 r A B 0
 
 unfoldable pub ruleOf : ℕ → ℕ → ℕ → ℕ → ℕ → Rule
 ruleOf k a b c n =
-    cond (eqb k 2) (Label (orBetween (operatorOf a n)) b c)
+    cond (eqb k 2) (Label (orIdentity (operatorOf a n)) b c)
     (cond (eqb k 3) (Both a b c)
-    (cond (eqb k 4) (Link (orBetween (operatorOf a n)) b c) (Via a b c)))
+    (cond (eqb k 4) (Link (orIdentity (operatorOf a n)) b c) (Via a b c)))
 
 -- the rule in the eight bytes from `at` on; what no rule is stored as is read as another
 abbrev pub ruleAt : List ℕ → ℕ → Rule
@@ -50,6 +51,13 @@ markOf k a b c d = cond (eqb k 6) (record { atom = Has a b; depth = d }) (record
 
 abbrev pub markAt : List ℕ → ℕ → Mark
 markAt b at = markOf (getD b at 0) (getD b (at + 1) 0) (getD b (at + 2) 0) (getD b (at + 3) 0) (signed32At b (at + 4))
+
+-- docs/STATE.md, the settings in the header: none yet
+abbrev pub settingsBytes : Settings → List ℕ
+settingsBytes s = []
+
+abbrev pub settingsAt : List ℕ → Settings
+settingsAt b = freshSettings
 
 -- f 0, f 1 .., n in all
 unfoldable pub tab : {X : Type 0} → (ℕ → X) → ℕ → List X

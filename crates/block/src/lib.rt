@@ -4,26 +4,30 @@ ghost use mathlib.Core.List.{[], _∷_, _++_};
 ghost use Prim.Native.Nat.{_+_, _≤_};
 ghost use lib.ListN.{length, take, drop};
 ghost use Rattle.codec.specs.Bytes.{put};
-ghost use Rattle.terms.specs.Operators.{operatorOf};
+ghost use Rattle.terms.specs.Limits.{RULES, MARKS};
 ghost use Rattle.state.specs.State.{Counts-in, heldOf};
-ghost use Rattle.block.specs.Layout.{orBetween, placeBytes, ruleBytes, ruleOf, ruleAt, markBytesOf, markBytes, markOf, markAt, cat, zeros};
-ghost use Rattle.block.specs.Block.{encode, Loaded-as};
+ghost use Rattle.block.specs.Layout.{settingsBytes, settingsAt, placeBytes, ruleBytes, ruleOf, ruleAt, markBytesOf, markBytes, markOf, markAt, cat, zeros};
+ghost use Rattle.block.specs.Block.{SETTINGS-AT, HEADER, MARKS-AT, SIZE, encode, Loaded-as};
 ghost use Rattle.block.specs.Places.{placeFrom, markFrom, placeBytesOf, Filled, Not-good};
 use state::State;
 use terms::Atom;
 use terms::MARKS;
 use terms::Mark;
 use terms::Operator;
-use terms::OperatorRead;
 use terms::RULES;
 use terms::Rule;
 use terms::RulePlace;
+use terms::Settings;
 
-pub const SIZE: usize = 3104;
+pub const SIZE: usize = MARKS_AT + MARKS * MARK_BYTES;
 
 const HEADER: usize = 32;
 
-const MARKS_AT: usize = 1056;
+const RULE_BYTES: usize = 8;
+
+const MARK_BYTES: usize = 8;
+
+const MARKS_AT: usize = HEADER + RULES * RULE_BYTES;
 
 // What a block holds; where it is not good the state is of no use.
 pub struct Loaded {
@@ -31,23 +35,14 @@ pub struct Loaded {
     pub state: State,
 }
 
-// What no operator is stored as is read as BETWEEN; the comparison in `load` finds it.
-fn operator_of(code: u8, n: u32) -> Operator
-    ensures { λ r. ⌜ r ≡ orBetween (operatorOf code n) ⌝ }
-{
-    match Operator::new(code, n) {
-        OperatorRead::Valid(operator) => operator,
-        OperatorRead::Invalid => Operator::BETWEEN,
-    }
-}
-
+// What no operator is stored as is read as WITHIN 1; the comparison in `load` finds it.
 fn rule_of(kind: u8, a: u8, b: u8, c: u8, n: u32) -> Rule
     ensures { λ r. ⌜ r ≡ ruleOf kind a b c n ⌝ }
 {
     match kind {
-        2 => Rule::Label(operator_of(a, n), b, c),
+        2 => Rule::Label(Operator::new(a, n).or_identity(), b, c),
         3 => Rule::Both(a, b, c),
-        4 => Rule::Link(operator_of(a, n), b, c),
+        4 => Rule::Link(Operator::new(a, n).or_identity(), b, c),
         _ => Rule::Via(a, b, c),
     }
 }
@@ -142,81 +137,95 @@ fn put_mark(b: &mut [u8], at: usize, mark: Mark)
     }
 }
 
+// Nothing is set yet, so there is nothing to lay.
+fn put_settings(b: &mut [u8], settings: Settings)
+    requires { ⌜ SIZE ≤ length (now b) ⌝ }
+    ensures { λ _. ⌜ now (b .exit) ≡ put (now (b .entry)) SETTINGS-AT (settingsBytes settings) ⌝ }
+{}
+
+fn settings_at(b: &[u8]) -> Settings
+    ensures { λ r. ⌜ r ≡ settingsAt (now (b .entry)) ⌝ }
+{
+    Settings::FRESH
+}
+
 // A free place is zero bytes.
 fn clear(b: &mut [u8])
-    requires { ⌜ 3104 ≤ length (now b) ⌝ }
-    ensures { λ _. ⌜ now (b .exit) ≡ zeros 3104 ++ drop 3104 (now (b .entry)) ⌝ }
+    requires { ⌜ SIZE ≤ length (now b) ⌝ }
+    ensures { λ _. ⌜ now (b .exit) ≡ zeros SIZE ++ drop SIZE (now (b .entry)) ⌝ }
 {
     for i in 0..SIZE {
         b[i] = 0;
     }
 }
 
-fn store_rules(b: &mut [u8], rules: [RulePlace; 128], n: usize)
-    requires { ⌜ (n ≤ 128) × (3104 ≤ length (now b)) ⌝ }
-    ensures { λ _. ⌜ now (b .exit) ≡ put (now (b .entry)) 32 (cat placeBytesOf (take n rules)) ⌝ }
+fn store_rules(b: &mut [u8], rules: [RulePlace; RULES], n: usize)
+    requires { ⌜ (n ≤ RULES) × (SIZE ≤ length (now b)) ⌝ }
+    ensures { λ _. ⌜ now (b .exit) ≡ put (now (b .entry)) HEADER (cat placeBytesOf (take n rules)) ⌝ }
 {
     for i in 0..n {
         let place = rules[i];
         let rule = place.rule;
-        put_rule(b, HEADER + 8 * i, rule);
+        put_rule(b, HEADER + RULE_BYTES * i, rule);
     }
 }
 
-fn store_marks(b: &mut [u8], marks: [Mark; 256], n: usize)
-    requires { ⌜ (n ≤ 256) × (3104 ≤ length (now b)) ⌝ }
-    ensures { λ _. ⌜ now (b .exit) ≡ put (now (b .entry)) 1056 (cat markBytes (take n marks)) ⌝ }
+fn store_marks(b: &mut [u8], marks: [Mark; MARKS], n: usize)
+    requires { ⌜ (n ≤ MARKS) × (SIZE ≤ length (now b)) ⌝ }
+    ensures { λ _. ⌜ now (b .exit) ≡ put (now (b .entry)) MARKS-AT (cat markBytes (take n marks)) ⌝ }
 {
     for i in 0..n {
         let mark = marks[i];
-        put_mark(b, MARKS_AT + 8 * i, mark);
+        put_mark(b, MARKS_AT + MARK_BYTES * i, mark);
     }
 }
 
-fn load_rules(b: &[u8], n: usize) -> [RulePlace; 128]
-    requires { ⌜ (n ≤ 128) × (3104 ≤ length (now b)) ⌝ }
-    ensures { λ r. ⌜ Filled 128 n (placeFrom (now (b .entry))) r ⌝ }
+fn load_rules(b: &[u8], n: usize) -> [RulePlace; RULES]
+    requires { ⌜ (n ≤ RULES) × (SIZE ≤ length (now b)) ⌝ }
+    ensures { λ r. ⌜ Filled RULES n (placeFrom (now (b .entry))) r ⌝ }
 {
     let place = RulePlace::EMPTY;
-    let mut out = [place; 128];
+    let mut out = [place; RULES];
     for i in 0..n {
-        let rule = rule_at(b, HEADER + 8 * i);
+        let rule = rule_at(b, HEADER + RULE_BYTES * i);
         out[i] = RulePlace { rule };
     }
     out
 }
 
-fn load_marks(b: &[u8], n: usize) -> [Mark; 256]
-    requires { ⌜ (n ≤ 256) × (3104 ≤ length (now b)) ⌝ }
-    ensures { λ r. ⌜ Filled 256 n (markFrom (now (b .entry))) r ⌝ }
+fn load_marks(b: &[u8], n: usize) -> [Mark; MARKS]
+    requires { ⌜ (n ≤ MARKS) × (SIZE ≤ length (now b)) ⌝ }
+    ensures { λ r. ⌜ Filled MARKS n (markFrom (now (b .entry))) r ⌝ }
 {
     let mark = Mark::EMPTY;
-    let mut out = [mark; 256];
+    let mut out = [mark; MARKS];
     for i in 0..n {
-        out[i] = mark_at(b, MARKS_AT + 8 * i);
+        out[i] = mark_at(b, MARKS_AT + MARK_BYTES * i);
     }
     out
 }
 
 // The bytes behind the block stay as they are.
 pub fn store(block: &mut [u8], state: State)
-    requires { ⌜ Counts-in state × (3104 ≤ length (now block)) ⌝ }
-    ensures { λ _. ⌜ now (block .exit) ≡ encode (heldOf state) ++ drop 3104 (now (block .entry)) ⌝ }
+    requires { ⌜ Counts-in state × (SIZE ≤ length (now block)) ⌝ }
+    ensures { λ _. ⌜ now (block .exit) ≡ encode (heldOf state) ++ drop SIZE (now (block .entry)) ⌝ }
 {
     let rule_count = state.rule_count;
     let mark_count = state.mark_count;
     let rules = state.rules;
     let marks = state.marks;
+    let settings = state.settings;
     clear(block);
     codec::put_u16(block, 0, rule_count as u16);
     codec::put_u16(block, 2, mark_count as u16);
+    put_settings(block, settings);
     store_rules(block, rules, rule_count);
     store_marks(block, marks, mark_count);
 }
 
 // Behind a call, so that no proof writes out the bytes.
 fn blank() -> [u8; SIZE]
-    ensures { λ r. ⌜ 3104 ≡ length r ⌝ }
+    ensures { λ r. ⌜ SIZE ≡ length r ⌝ }
 {
     [0u8; SIZE]
 }
@@ -231,7 +240,7 @@ fn not_good() -> Loaded
 
 // A block is good where it is the encoding of what it holds: to store that again and compare tests every byte.
 pub fn load(block: &[u8]) -> Loaded
-    requires { ⌜ 3104 ≤ length (now block) ⌝ }
+    requires { ⌜ SIZE ≤ length (now block) ⌝ }
     ensures { λ r. ⌜ Loaded-as (now (block .entry)) r ⌝ }
 {
     let rule_count = codec::u16_at(block, 0) as usize;
@@ -244,11 +253,13 @@ pub fn load(block: &[u8]) -> Loaded
     }
     let rules = load_rules(block, rule_count);
     let marks = load_marks(block, mark_count);
+    let settings = settings_at(block);
     let state = State {
         rules,
         rule_count,
         marks,
         mark_count,
+        settings,
     };
     let within = state.within_limits();
     if !within {
