@@ -11,7 +11,7 @@ use lib.Arith.{lt-one}
 use lib.Bits.{bitAnd, bitOr, bitXor, differ, and-mask, and-shr, and-step, or-shr, or-step, xor-shr, xor-step}
 use lib.Pow.{pow-pos, pow-add, pow-lt, pow-mono, shl-shr, shl-exact, shr-shr, shr-lt, ones-split, ones-lt, high}
 use lib.Count.{trailingZeros, leadingZeros, under, leading-length}
-use Rattle.words.specs.Bit.{bitAt, Ones, Lowest, Length}
+use Rattle.words.specs.Bit.{bitAt, Ones, Lowest-bit, Length}
 
 two-pos : 0 < 2
 two-pos = zero-lt-suc 1
@@ -172,7 +172,7 @@ lowest-of (suc k) x h l = go (x % 2) refl (lowest-of k (x / 2))
     go (suc zero) e ih = (zero-lt-suc k, bit-0 x ∙ e, λ p b. absurd (let z : ⊥ = omega arith in z))
     go (suc (suc d)) e ih = absurd (let m = mod-lt x two-pos in let z : ⊥ = omega arith in z)
 
-pub lowest-word : (x : ℕ) → 0 < x → x < 2 ^ 64 → Lowest x (trailingZeros 64 x)
+pub lowest-word : (x : ℕ) → 0 < x → x < 2 ^ 64 → Lowest-bit x (trailingZeros 64 x)
 lowest-word x h l = let w = lowest-of 64 x h l in record { small = w .0; set = w .1; below = w .2 }
 
 -- ---- the length

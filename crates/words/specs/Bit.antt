@@ -16,7 +16,7 @@ pub record Minus (n k r : ℕ) : Type 0 where
   pub is : r ≡ n - k
 
 -- `r` is the lowest set bit of `x`
-pub record Lowest (x r : ℕ) : Type 0 where
+pub record Lowest-bit (x r : ℕ) : Type 0 where
   pub small : r < 64
   pub set : bitAt x r ≡ 1
   pub below : (p : ℕ) → p < r → bitAt x p ≡ 0

@@ -1,4 +1,4 @@
--- Squares read, turned and laid: each loop sets one place more, and a turned square has the cells of its rows.
+-- Squares read, transposed and laid: each loop sets one place more, and a transposed square has the cells of its rows.
 use mathlib.Core.Path.{_≡_, refl, sym, ap, _∙_, subst}
 use mathlib.Core.Logic.{_⊎_, inl, inr, ⊎-elim}
 use mathlib.Core.List.{List}
@@ -11,8 +11,8 @@ use Rattle.words.specs.Bit.{bitAt}
 use Rattle.words.proofs.Bits.{eq-or-ne}
 use Rattle.store.specs.Cells.{cell}
 use Rattle.store.proofs.Steps.{cell-is}
-use Rattle.flip.specs.Flip.{Flipped}
-use Rattle.write.specs.Parts.{Square, Turned, Laid}
+use Rattle.transpose.specs.Transposed.{Transposed}
+use Rattle.write.specs.Parts.{Square, Columns, Laid}
 
 -- ---- a square read
 pub square-none : (l : List ℕ) (start w : ℕ) → Square l start w 0 (replicate 64 0)
@@ -32,9 +32,9 @@ square-more l start w n t h S =
 pub square-all : (l : List ℕ) (start w n count : ℕ) (t : List ℕ) → count ≤ n → Square l start w n t → Square l start w count t
 square-all l start w n count t h S = record { size = S .size; at = λ k i. S .at k (omega arith) }
 
--- ---- a square turned
-pub turned-is : (l : List ℕ) (start w count : ℕ) (t u : List ℕ) → w < 4 → count ≤ 64 → Square l start w count t → Flipped t u → Turned l start w count u
-turned-is l start w count t u h g S F = record { size = F .size ∙ S .size; at = by }
+-- ---- a square transposed
+pub columns-is : (l : List ℕ) (start w count : ℕ) (t u : List ℕ) → w < 4 → count ≤ 64 → Square l start w count t → Transposed t u → Columns l start w count u
+columns-is l start w count t u h g S F = record { size = F .size ∙ S .size; at = by }
   where
     by : (k c : ℕ) → k < 64 → c < count → bitAt (getD u k 0) c ≡ cell l (start + c) (w * 64 + k)
     by k c i j =

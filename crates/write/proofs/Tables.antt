@@ -14,7 +14,7 @@ use Rattle.words.proofs.Bits.{le-or-lt, eq-or-ne, bit-zero}
 use Rattle.rows.proofs.Laws.{or-zero}
 use Rattle.store.specs.Cells.{cell}
 use Rattle.store.proofs.Steps.{cell-is}
-use Rattle.write.specs.Parts.{Turned, Laid, wordsOf, bytesOf, zeros, Part, Unused}
+use Rattle.write.specs.Parts.{Columns, Laid, wordsOf, bytesOf, zeroAt, Part, Unused}
 use Rattle.write.specs.Written.{LabelsWritten, LinksWritten}
 use Rattle.write.proofs.Squares.{byte-bit}
 
@@ -38,12 +38,12 @@ part-of value l start count base from to at n m m′ a e has-cell L =
         ∙ has-cell (p - from) c (omega arith) j
         ∙ ap (λ (x : ℕ). cell l (start + c) x) r
 
-pub words-part : (l : List ℕ) (start base w n : ℕ) (t m m′ : List ℕ) → n ≤ 64 → Turned l start w 64 t → Laid (wordsOf t) (base + w * 64) n m m′
+pub words-part : (l : List ℕ) (start base w n : ℕ) (t m m′ : List ℕ) → n ≤ 64 → Columns l start w 64 t → Laid (wordsOf t) (base + w * 64) n m m′
     → Part l start 64 base (w * 64) (w * 64 + n) m m′
 words-part l start base w n t m m′ h T L =
     part-of (wordsOf t) l start 64 base (w * 64) (w * 64 + n) (base + w * 64) n m m′ refl refl (λ k c i j. T .at k c (omega arith) j) L
 
-pub bytes-part : (l : List ℕ) (start base w n : ℕ) (t m m′ : List ℕ) → n ≤ 64 → Turned l start w 8 t → Laid (bytesOf t) (base + w * 64) n m m′
+pub bytes-part : (l : List ℕ) (start base w n : ℕ) (t m m′ : List ℕ) → n ≤ 64 → Columns l start w 8 t → Laid (bytesOf t) (base + w * 64) n m m′
     → Part l start 8 base (w * 64) (w * 64 + n) m m′
 bytes-part l start base w n t m m′ h T L =
     part-of (bytesOf t) l start 8 base (w * 64) (w * 64 + n) (base + w * 64) n m m′ refl refl (λ k c i j. byte-bit (getD t k 0) c j ∙ T .at k c (omega arith) j) L
@@ -67,8 +67,8 @@ clear-more l start n x C = record { none = by }
 pub clear-all : (l : List ℕ) (start n x : ℕ) → 32 ≤ n → Clear l start n x → Unused l start (eqb x 0)
 clear-all l start n x h C = record { none = λ e k i. C .none (eqb-true _ _ e) k (omega arith) }
 
-pub unused-part : (l : List ℕ) (start base : ℕ) (r : Bool) (m m′ : List ℕ) → Unused l start r → r ≡ true → Laid zeros base 193 m m′ → Part l start 8 base 0 193 m m′
-unused-part l start base r m m′ U e L = part-of zeros l start 8 base 0 193 base 193 m m′ (omega arith) refl by L
+pub unused-part : (l : List ℕ) (start base : ℕ) (r : Bool) (m m′ : List ℕ) → Unused l start r → r ≡ true → Laid zeroAt base 193 m m′ → Part l start 8 base 0 193 m m′
+unused-part l start base r m m′ U e L = part-of zeroAt l start 8 base 0 193 base 193 m m′ (omega arith) refl by L
   where
     by : (k c : ℕ) → k < 193 → c < 8 → bitAt 0 c ≡ cell l (start + c) (0 + k)
     by k c i j =

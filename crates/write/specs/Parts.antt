@@ -1,4 +1,4 @@
--- What the steps of the writing do: a square read and turned, entries laid, a part of a block written.
+-- What the steps of the writing do: a square read and transposed, entries laid, a part of a block written.
 use mathlib.Core.Path.{_≡_}
 use mathlib.Core.Logic.{_⊎_}
 use mathlib.Core.List.{List}
@@ -14,7 +14,7 @@ pub record Square (l : List ℕ) (start w count : ℕ) (t : List ℕ) : Type 0 w
   pub at : (k : ℕ) → k < count → getD t k 0 ≡ getD l (start * 4 + w + k * 4) 0
 
 -- the first `count` bits of word `k` of `t` say which of the rows from `start` on have interval w * 64 + k
-pub record Turned (l : List ℕ) (start w count : ℕ) (t : List ℕ) : Type 0 where
+pub record Columns (l : List ℕ) (start w count : ℕ) (t : List ℕ) : Type 0 where
   pub size : length t ≡ 64
   pub at : (k c : ℕ) → k < 64 → c < count → bitAt (getD t k 0) c ≡ cell l (start + c) (w * 64 + k)
 
@@ -27,8 +27,8 @@ abbrev pub bytesOf : List ℕ → ℕ → ℕ
 bytesOf t k = getD t k 0 % 256
 
 -- nothing but zeros
-abbrev pub zeros : ℕ → ℕ
-zeros k = 0
+abbrev pub zeroAt : ℕ → ℕ
+zeroAt k = 0
 
 -- `after` is `before` with `count` values from `base` on
 pub record Laid (value : ℕ → ℕ) (base count : ℕ) (before after : List ℕ) : Type 0 where

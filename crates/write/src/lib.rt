@@ -1,10 +1,10 @@
 // The lent tables, written from one store of rows. Rows are sets of intervals and entries are sets of
-// labels or link kinds, so squares of bits are turned: 64 entries come from 64 words at a time.
+// labels or link kinds, so squares of bits are transposed: 64 entries come from 64 words at a time.
 ghost use mathlib.Core.Path.{_≡_};
 ghost use Prim.Native.Nat.{_+_, _*_, _<_, _≤_};
 ghost use lib.ListN.{length};
 ghost use Rattle.write.specs.Written.{LabelsWritten, LinksWritten};
-ghost use Rattle.write.specs.Parts.{Square, Turned, Laid, wordsOf, bytesOf, zeros, Part, Unused};
+ghost use Rattle.write.specs.Parts.{Square, Columns, Laid, wordsOf, bytesOf, zeroAt, Part, Unused};
 
 // Word `w` of each of the `count` rows from `start` on, and zeros behind.
 fn square_of(rows: &[u64], start: usize, w: usize, count: usize) -> [u64; 64]
@@ -22,12 +22,12 @@ fn square_of(rows: &[u64], start: usize, w: usize, count: usize) -> [u64; 64]
 }
 
 // The entries of the 64 intervals from w * 64 on, from the `count` rows from `start` on.
-fn turned(rows: &[u64], start: usize, w: usize, count: usize) -> [u64; 64]
+fn transposed(rows: &[u64], start: usize, w: usize, count: usize) -> [u64; 64]
     requires { ⌜ (start * 4 + count * 4 ≤ length (now rows)) × (w < 4) × (count ≤ 64) ⌝ }
-    ensures { λ r. ⌜ Turned (now (rows .entry)) start w count r ⌝ }
+    ensures { λ r. ⌜ Columns (now (rows .entry)) start w count r ⌝ }
 {
     let mut square = square_of(rows, start, w, count);
-    flip::flip(&mut square);
+    transpose::transpose(&mut square);
     square
 }
 
@@ -58,7 +58,7 @@ fn lay_bytes(links: &mut [u8], base: usize, square: &[u64; 64], count: usize)
 // Clears the 193 bytes from `base` on.
 fn clear(links: &mut [u8], base: usize)
     requires { ⌜ base + 193 ≤ length (now links) ⌝ }
-    ensures { λ u. ⌜ Laid zeros base 193 (now (links .entry)) (now (links .exit)) ⌝ }
+    ensures { λ u. ⌜ Laid zeroAt base 193 (now (links .entry)) (now (links .exit)) ⌝ }
 {
     let mut k = 0;
     while k < 193 {
@@ -72,7 +72,7 @@ fn item_part(labels: &mut [u64], rows: &[u64], item: usize, w: usize, count: usi
     requires { ⌜ (item * 256 + 256 ≤ length (now rows)) × (item * 193 + w * 64 + count ≤ length (now labels)) × (w < 4) × (count ≤ 64) ⌝ }
     ensures { λ u. ⌜ Part (now (rows .entry)) (item * 64) 64 (item * 193) (w * 64) (w * 64 + count) (now (labels .entry)) (now (labels .exit)) ⌝ }
 {
-    let square = turned(rows, item * 64, w, 64);
+    let square = transposed(rows, item * 64, w, 64);
     lay_words(labels, item * 193 + w * 64, &square, count);
 }
 
@@ -119,7 +119,7 @@ fn pair_part(links: &mut [u8], rows: &[u64], pair: usize, w: usize, count: usize
     requires { ⌜ (4096 + pair * 32 + 32 ≤ length (now rows)) × (pair * 193 + w * 64 + count ≤ length (now links)) × (w < 4) × (count ≤ 64) ⌝ }
     ensures { λ u. ⌜ Part (now (rows .entry)) (1024 + pair * 8) 8 (pair * 193) (w * 64) (w * 64 + count) (now (links .entry)) (now (links .exit)) ⌝ }
 {
-    let square = turned(rows, 1024 + pair * 8, w, 8);
+    let square = transposed(rows, 1024 + pair * 8, w, 8);
     lay_bytes(links, pair * 193 + w * 64, &square, count);
 }
 
