@@ -5,9 +5,9 @@ use Prim.Native.Nat.{ℕ, suc, _+_, _*_, _-_, _/_, _%_, _^_, _<_, _≤_}
 use native.Mathlib.Nat.{mul-assoc}
 use native.Mathlib.Omega.{arith}
 use lib.Bits.{bitAnd, bitOr, bitXor, shifted-even}
-use lib.Pow.{pow-add, shl-shr, shr-shr, field, mod-mod-pow}
+use lib.Pow.{pow-add, shl-shr, shr-shr}
 use Rattle.words.specs.Bit.{bitAt}
-use Rattle.words.proofs.Bits.{le-or-lt, bit-lt, or-bit, and-bit, without-bit}
+use Rattle.words.proofs.Bits.{le-or-lt, bit-lt, cut-bit, or-bit, and-bit, without-bit}
 use Rattle.transpose.specs.Transposed.{side, Stage, Exchanged}
 
 -- a shift to the right
@@ -15,19 +15,10 @@ pub shr-bit : (x j c : ℕ) → bitAt (x / 2 ^ j) c ≡ bitAt x (c + j)
 unfolding bitAt
 shr-bit x j c = ap (λ (y : ℕ). y % 2) (shr-shr x j c ∙ ap (λ (m : ℕ). x / 2 ^ m) (let e : j + c ≡ c + j = omega arith in e))
 
--- the bits below 64 of a number cut to 64 bits
-pub cut-bit : (x c : ℕ) → c < 64 → bitAt (x % 2 ^ 64) c ≡ bitAt x c
-unfolding bitAt
-cut-bit x c h =
-    let e : (63 - c) + 1 + c ≡ 64 = omega arith in
-    ap (λ (m : ℕ). x % 2 ^ m / 2 ^ c % 2) (sym e)
-    ∙ ap (λ (y : ℕ). y % 2) (field x ((63 - c) + 1) c)
-    ∙ mod-mod-pow (x / 2 ^ c) (63 - c) 1
-
 -- a shift to the left, and the bits that it leaves empty
 pub shl-high : (x j c : ℕ) → c < 64 → j ≤ c → bitAt (x * 2 ^ j % 2 ^ 64) c ≡ bitAt x (c - j)
 unfolding bitAt
-shl-high x j c h l = cut-bit (x * 2 ^ j) c h ∙ shifted
+shl-high x j c h l = cut-bit (x * 2 ^ j) 64 c h ∙ shifted
   where
     shifted : bitAt (x * 2 ^ j) c ≡ bitAt x (c - j)
     shifted =
@@ -37,7 +28,7 @@ shl-high x j c h l = cut-bit (x * 2 ^ j) c h ∙ shifted
 
 pub shl-low : (x j c : ℕ) → c < 64 → c < j → bitAt (x * 2 ^ j % 2 ^ 64) c ≡ 0
 unfolding bitAt
-shl-low x j c h l = cut-bit (x * 2 ^ j) c h ∙ shifted
+shl-low x j c h l = cut-bit (x * 2 ^ j) 64 c h ∙ shifted
   where
     shifted : bitAt (x * 2 ^ j) c ≡ 0
     shifted =

@@ -9,9 +9,9 @@ use native.Mathlib.Decide.{decLe, ℕ-discrete}
 use lib.Dec.{lit<}
 use lib.Arith.{lt-one}
 use lib.Bits.{bitAnd, bitOr, bitXor, differ, and-mask, and-shr, and-step, or-shr, or-step, xor-shr, xor-step}
-use lib.Pow.{pow-pos, pow-add, pow-lt, pow-mono, shl-shr, shl-exact, shr-shr, shr-lt, ones-split, ones-lt, high}
+use lib.Pow.{pow-pos, pow-add, pow-lt, pow-mono, shl-shr, shl-exact, shr-lt, ones-split, ones-lt, high, field, mod-mod-pow}
 use lib.Count.{trailingZeros, leadingZeros, under, leading-length}
-use Rattle.words.specs.Bit.{bitAt, Ones, Lowest-bit, Length}
+use Rattle.words.specs.Bit.{bitAt, bit-suc, Ones, Lowest-bit, Length}
 
 two-pos : 0 < 2
 two-pos = zero-lt-suc 1
@@ -49,14 +49,19 @@ bit-above x k p h l = ap (λ (y : ℕ). y % 2) (div-eq-of-lt (lt-of-lt-of-le h (
 pub bit-zero : (p : ℕ) → bitAt 0 p ≡ 0
 bit-zero p = bit-above 0 0 p (zero-lt-suc 0) (omega arith)
 
--- the lowest bit, and the others
+-- the lowest bit
 pub bit-0 : (x : ℕ) → bitAt x 0 ≡ x % 2
 unfolding bitAt
 bit-0 x = ap (λ (y : ℕ). y % 2) (div-one x)
 
-pub bit-suc : (x p : ℕ) → bitAt x (suc p) ≡ bitAt (x / 2) p
+-- the low bits of a number that is cut
+pub cut-bit : (x n k : ℕ) → k < n → bitAt (x % 2 ^ n) k ≡ bitAt x k
 unfolding bitAt
-bit-suc x p = ap (λ (y : ℕ). y % 2) (sym (shr-shr x 1 p ∙ ap (λ (m : ℕ). x / 2 ^ m) (let e : 1 + p ≡ suc p = omega arith in e)))
+cut-bit x n k h =
+    let e : (n - suc k) + 1 + k ≡ n = omega arith in
+    ap (λ (m : ℕ). x % 2 ^ m / 2 ^ k % 2) (sym e)
+    ∙ ap (λ (y : ℕ). y % 2) (field x ((n - suc k) + 1) k)
+    ∙ mod-mod-pow (x / 2 ^ k) (n - suc k) 1
 
 max-lt : (a b : ℕ) → a < 2 → b < 2 → max a b < 2
 max-lt a b p q = omega arith

@@ -2,11 +2,10 @@
 use mathlib.Core.Path.{_≡_, refl, sym, ap, _∙_, subst}
 use mathlib.Core.Logic.{_⊎_, inl, inr, ⊎-elim}
 use mathlib.Core.List.{List}
-use Prim.Native.Nat.{ℕ, _+_, _*_, _-_, _/_, _%_, _^_, _<_, _≤_}
+use Prim.Native.Nat.{ℕ, _+_, _*_, _-_, _%_, _<_, _≤_}
 use native.Mathlib.Omega.{arith}
 use lib.ListN.{length, getD, set, length-set, replicate, length-replicate}
 use lib.Seq.{getD-set-same, getD-set-other}
-use lib.Pow.{field, mod-mod-pow}
 use Rattle.words.specs.Bit.{bitAt}
 use Rattle.words.proofs.Bits.{eq-or-ne}
 use Rattle.store.specs.Cells.{cell}
@@ -43,15 +42,6 @@ columns-is l start w count t u h g S F = record { size = F .size ∙ S .size; at
         ∙ ap (λ (x : ℕ). bitAt x k) (S .at c j)
         ∙ ap (λ (x : ℕ). bitAt (getD l (start * 4 + w + c * 4) 0) x) m
         ∙ cell-is l (start + c) (w * 64 + k) (start * 4 + w + c * 4) (omega arith) (omega arith)
-
--- the lowest byte has the eight lowest bits
-pub byte-bit : (x c : ℕ) → c < 8 → bitAt (x % 256) c ≡ bitAt x c
-unfolding bitAt
-byte-bit x c h =
-    let e : (7 - c) + 1 + c ≡ 8 = omega arith in
-    ap (λ (m : ℕ). x % 2 ^ m / 2 ^ c % 2) (sym e)
-    ∙ ap (λ (y : ℕ). y % 2) (field x ((7 - c) + 1) c)
-    ∙ mod-mod-pow (x / 2 ^ c) (7 - c) 1
 
 -- ---- entries laid
 pub laid-none : (value : ℕ → ℕ) (base : ℕ) (l : List ℕ) → Laid value base 0 l l

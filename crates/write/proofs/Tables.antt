@@ -10,13 +10,12 @@ use lib.Dec.{eqb}
 use borrow.Author.Tests.{eqb-true}
 use lib.ListN.{length, getD}
 use Rattle.words.specs.Bit.{bitAt}
-use Rattle.words.proofs.Bits.{le-or-lt, eq-or-ne, bit-zero}
+use Rattle.words.proofs.Bits.{le-or-lt, eq-or-ne, bit-zero, cut-bit}
 use Rattle.rows.proofs.Laws.{or-zero}
 use Rattle.store.specs.Cells.{cell}
 use Rattle.store.proofs.Steps.{cell-is}
 use Rattle.write.specs.Parts.{Columns, Laid, wordsOf, bytesOf, zeroAt, Part, Unused}
 use Rattle.write.specs.Written.{LabelsWritten, LinksWritten}
-use Rattle.write.proofs.Squares.{byte-bit}
 
 -- ---- a part of a block, from the entries laid
 part-of : (value : ℕ → ℕ) (l : List ℕ) (start count base from to at n : ℕ) (m m′ : List ℕ) → at ≡ base + from → to ≡ from + n
@@ -46,7 +45,7 @@ words-part l start base w n t m m′ h T L =
 pub bytes-part : (l : List ℕ) (start base w n : ℕ) (t m m′ : List ℕ) → n ≤ 64 → Columns l start w 8 t → Laid (bytesOf t) (base + w * 64) n m m′
     → Part l start 8 base (w * 64) (w * 64 + n) m m′
 bytes-part l start base w n t m m′ h T L =
-    part-of (bytesOf t) l start 8 base (w * 64) (w * 64 + n) (base + w * 64) n m m′ refl refl (λ k c i j. byte-bit (getD t k 0) c j ∙ T .at k c (omega arith) j) L
+    part-of (bytesOf t) l start 8 base (w * 64) (w * 64 + n) (base + w * 64) n m m′ refl refl (λ k c i j. cut-bit (getD t k 0) 8 c j ∙ T .at k c (omega arith) j) L
 
 -- ---- a block of eight rows that are empty
 -- where `x` is 0, the first `n` words from row `start` on are
