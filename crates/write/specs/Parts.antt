@@ -5,6 +5,7 @@ use mathlib.Core.List.{List}
 use mathlib.Core.Bool.{Bool, true}
 use Prim.Native.Nat.{ℕ, _+_, _*_, _%_, _<_, _≤_}
 use lib.ListN.{length, getD}
+use Rattle.terms.specs.Limits.{KINDS}
 use Rattle.words.specs.Bit.{bitAt}
 use Rattle.store.specs.Cells.{cell}
 
@@ -42,6 +43,6 @@ pub record Part (l : List ℕ) (start count base from to : ℕ) (before after : 
   pub at : (p c : ℕ) → from ≤ p → p < to → c < count → bitAt (getD after (base + p) 0) c ≡ cell l (start + c) p
   pub others : (x : ℕ) → (x < base + from) ⊎ (base + to ≤ x) → getD after x 0 ≡ getD before x 0
 
--- where `r` is true, the 32 words of the eight rows from `start` on are 0
+-- where `r` is true, the words of the rows of a pair, from `start` on, are 0
 pub record Unused (l : List ℕ) (start : ℕ) (r : Bool) : Type 0 where
-  pub none : r ≡ true → (k : ℕ) → k < 32 → getD l (start * 4 + k) 0 ≡ 0
+  pub none : r ≡ true → (k : ℕ) → k < KINDS * 4 → getD l (start * 4 + k) 0 ≡ 0
