@@ -175,7 +175,8 @@ mixed-none a = record {
   at = λ k c h l. ap₂ (λ (x y : ℕ). dot a x y) (let e : k ≡ mix 64 k c = omega arith in e) (let e : c ≡ mix 64 c k = omega arith in e);
 }
 
-pub transposed : (a b5 b4 b3 b2 b1 b0 : List ℕ) → Swapped 32 a b5 → Swapped 16 b5 b4 → Swapped 8 b4 b3 → Swapped 4 b3 b2 → Swapped 2 b2 b1 → Swapped 1 b1 b0 → Transposed a b0
+pub transposed : (a b5 b4 b3 b2 b1 b0 : List ℕ) → Swapped 32 a b5 → Swapped 16 b5 b4 → Swapped 8 b4 b3 → Swapped 4 b3 b2 → Swapped 2 b2 b1 →
+    Swapped 1 b1 b0 → Transposed a b0
 transposed a b5 b4 b3 b2 b1 b0 s5 s4 s3 s2 s1 s0 =
     let t5 = mixed-more 32 64 4294967295 stage32 mixes32 a a b5 (mixed-none a) s5 in
     let t4 = mixed-more 16 32 281470681808895 stage16 mixes16 a b5 b4 t5 s4 in

@@ -45,8 +45,28 @@ exchanged u v j m S =
       u-low = λ c h z. omega (arith, or-bit (bitAnd u m) (bitAnd v m * 2 ^ j % 2 ^ 64) c, and-bit u m c, bit-lt u c, S .mask c h, moved-none c h z);
       u-high = λ c h o.
           let w = S .high c h o in
-          omega (arith, or-bit (bitAnd u m) (bitAnd v m * 2 ^ j % 2 ^ 64) c, and-bit u m c, bit-lt v (c - j), S .mask c h, shl-high (bitAnd v m) j c h (w .0), and-bit v m (c - j), S .mask (c - j) (omega arith), w .1);
-      v-low = λ c h z. omega (arith, or-bit (bitAnd (u / 2 ^ j) m) (bitXor v (bitAnd v m)) c, and-bit (u / 2 ^ j) m c, shr-bit u j c, bit-lt u (c + j), bit-lt v c, S .mask c h, without-bit v m c);
+          omega (
+            arith,
+            or-bit (bitAnd u m) (bitAnd v m * 2 ^ j % 2 ^ 64) c,
+            and-bit u m c,
+            bit-lt v (c - j),
+            S .mask c h,
+            shl-high (bitAnd v m) j c h (w .0),
+            and-bit v m (c - j),
+            S .mask (c - j) (omega arith),
+            w .1,
+          );
+      v-low = λ c h z.
+          omega (
+            arith,
+            or-bit (bitAnd (u / 2 ^ j) m) (bitXor v (bitAnd v m)) c,
+            and-bit (u / 2 ^ j) m c,
+            shr-bit u j c,
+            bit-lt u (c + j),
+            bit-lt v c,
+            S .mask c h,
+            without-bit v m c,
+          );
       v-high = λ c h o. omega (arith, or-bit (bitAnd (u / 2 ^ j) m) (bitXor v (bitAnd v m)) c, and-bit (u / 2 ^ j) m c, S .mask c h, without-bit v m c);
     }
   where

@@ -2,7 +2,8 @@
 use mathlib.Core.Path.{_≡_, refl, sym, ap, _∙_, subst}
 use mathlib.Core.Logic.{_⊎_, inl, inr, ⊎-elim}
 use Prim.Native.Nat.{ℕ, zero, suc, _+_, _*_, _-_, _/_, _%_, _^_, _<_, _≤_, max, min}
-use native.Mathlib.Nat.{mod-lt, zero-lt-suc, div-eq-of-lt, mul-add-mod-self-right, mod-eq-of-lt, mul-mod-left, pow-suc, one-mul, div-self, div-one, lt-of-lt-of-le}
+use native.Mathlib.Nat.{mod-lt, zero-lt-suc, div-eq-of-lt, mul-add-mod-self-right, mod-eq-of-lt}
+use native.Mathlib.Nat.{mul-mod-left, pow-suc, one-mul, div-self, div-one, lt-of-lt-of-le}
 use native.Mathlib.Omega.{arith}
 use native.Mathlib.Numerals.{add-one}
 use native.Mathlib.Decide.{decLe, ℕ-discrete}
@@ -164,8 +165,11 @@ lowest-of (suc k) x h l = go (x % 2) refl (lowest-of k (x / 2))
     half = shr-lt k 1 (subst (λ (m : ℕ). x < 2 ^ m) (sym (add-one k)) l)
 
     go : (d : ℕ) → x % 2 ≡ d
-        → (0 < x / 2 → x / 2 < 2 ^ k → (trailingZeros k (x / 2) < k) × (bitAt (x / 2) (trailingZeros k (x / 2)) ≡ 1) × ((p : ℕ) → p < trailingZeros k (x / 2) → bitAt (x / 2) p ≡ 0))
-        → (under d (trailingZeros k (x / 2)) < suc k) × (bitAt x (under d (trailingZeros k (x / 2))) ≡ 1) × ((p : ℕ) → p < under d (trailingZeros k (x / 2)) → bitAt x p ≡ 0)
+        → (0 < x / 2 → x / 2 < 2 ^ k →
+        (trailingZeros k (x / 2) < k) × (bitAt (x / 2) (trailingZeros k (x / 2)) ≡ 1)
+        × ((p : ℕ) → p < trailingZeros k (x / 2) → bitAt (x / 2) p ≡ 0))
+        → (under d (trailingZeros k (x / 2)) < suc k) × (bitAt x (under d (trailingZeros k (x / 2))) ≡ 1)
+        × ((p : ℕ) → p < under d (trailingZeros k (x / 2)) → bitAt x p ≡ 0)
     go zero e ih =
         let w = ih (omega arith) half in
         (omega (arith, w .0), bit-suc x _ ∙ w .1, λ p b. below w p b)
@@ -192,7 +196,9 @@ length-word x h =
     subst (λ (m : ℕ). Length x m) e
     (record {
       small = omega arith;
-      some = λ s. ⊎-elim (λ (z : w .0 ≡ 0). absurd (let q = subst (λ (m : ℕ). x < 2 ^ m) z (w .2) in let y : ⊥ = omega arith in y)) (λ ne. omega arith) (eq-or-ne (w .0) 0);
+      some = λ s.
+          ⊎-elim (λ (z : w .0 ≡ 0). absurd (let q = subst (λ (m : ℕ). x < 2 ^ m) z (w .2) in let y : ⊥ = omega arith in y))
+          (λ ne. omega arith) (eq-or-ne (w .0) 0);
       top = λ p q. top-bit x p (subst (λ (m : ℕ). x < 2 ^ m) (sym q ∙ add-one p) (w .2)) (subst (λ (m : ℕ). 2 ^ m ≤ 2 * x + 1) (sym q ∙ add-one p) (w .3));
       above = λ p q. bit-above x (w .0) p (w .2) q;
     })

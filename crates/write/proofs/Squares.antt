@@ -17,13 +17,16 @@ use Rattle.write.specs.Parts.{Square, Columns, Laid}
 pub square-none : (l : List ℕ) (start w : ℕ) → Square l start w 0 (replicate 64 0)
 square-none l start w = record { size = length-replicate {A = ℕ} 64 0; at = λ k h. absurd (let z : ⊥ = omega arith in z) }
 
-pub square-more : (l : List ℕ) (start w n : ℕ) (t : List ℕ) → n < 64 → Square l start w n t → Square l start w (n + 1) (set t n (getD l (start * 4 + w + n * 4) 0))
+pub square-more : (l : List ℕ) (start w n : ℕ) (t : List ℕ) → n < 64 → Square l start w n t →
+    Square l start w (n + 1) (set t n (getD l (start * 4 + w + n * 4) 0))
 square-more l start w n t h S =
     let s = S .size in
     record {
       size = length-set t n _ ∙ s;
       at = λ k i. ⊎-elim
-          (λ (e : k ≡ n). subst (λ (x : ℕ). getD (set t n (getD l (start * 4 + w + n * 4) 0)) x 0 ≡ getD l (start * 4 + w + x * 4) 0) (sym e) (getD-set-same t n _ 0 (omega arith)))
+          (λ (e : k ≡ n).
+          subst (λ (x : ℕ). getD (set t n (getD l (start * 4 + w + n * 4) 0)) x 0 ≡ getD l (start * 4 + w + x * 4) 0) (sym e)
+          (getD-set-same t n _ 0 (omega arith)))
           (λ ne. getD-set-other t n k _ 0 ne ∙ S .at k (omega arith))
           (eq-or-ne k n);
     }
@@ -47,7 +50,8 @@ columns-is l start w count t u h g S F = record { size = F .size ∙ S .size; at
 pub laid-none : (value : ℕ → ℕ) (base : ℕ) (l : List ℕ) → Laid value base 0 l l
 laid-none value base l = record { size = refl; at = λ k h. absurd (let z : ⊥ = omega arith in z); others = λ x _. refl }
 
-pub laid-more : (value : ℕ → ℕ) (base n : ℕ) (l m : List ℕ) → base + n < length m → Laid value base n l m → Laid value base (n + 1) l (set m (base + n) (value n))
+pub laid-more : (value : ℕ → ℕ) (base n : ℕ) (l m : List ℕ) → base + n < length m → Laid value base n l m →
+    Laid value base (n + 1) l (set m (base + n) (value n))
 laid-more value base n l m h L =
     record {
       size = length-set m (base + n) _ ∙ L .size;

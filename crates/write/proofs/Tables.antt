@@ -45,7 +45,8 @@ words-part l start base w n t m m′ h T L =
 pub bytes-part : (l : List ℕ) (start base w n : ℕ) (t m m′ : List ℕ) → n ≤ 64 → Columns l start w 8 t → Laid (bytesOf t) (base + w * 64) n m m′
     → Part l start 8 base (w * 64) (w * 64 + n) m m′
 bytes-part l start base w n t m m′ h T L =
-    part-of (bytesOf t) l start 8 base (w * 64) (w * 64 + n) (base + w * 64) n m m′ refl refl (λ k c i j. cut-bit (getD t k 0) 8 c j ∙ T .at k c (omega arith) j) L
+    part-of (bytesOf t) l start 8 base (w * 64) (w * 64 + n) (base + w * 64) n m m′ refl refl
+    (λ k c i j. cut-bit (getD t k 0) 8 c j ∙ T .at k c (omega arith) j) L
 
 -- ---- a block of eight rows that are empty
 -- where `x` is 0, the first `n` words from row `start` on are
@@ -66,7 +67,8 @@ clear-more l start n x C = record { none = by }
 pub clear-all : (l : List ℕ) (start n x : ℕ) → 32 ≤ n → Clear l start n x → Unused l start (eqb x 0)
 clear-all l start n x h C = record { none = λ e k i. C .none (eqb-true _ _ e) k (omega arith) }
 
-pub unused-part : (l : List ℕ) (start base : ℕ) (r : Bool) (m m′ : List ℕ) → Unused l start r → r ≡ true → Laid zeroAt base 193 m m′ → Part l start 8 base 0 193 m m′
+pub unused-part : (l : List ℕ) (start base : ℕ) (r : Bool) (m m′ : List ℕ) → Unused l start r → r ≡ true → Laid zeroAt base 193 m m′ →
+    Part l start 8 base 0 193 m m′
 unused-part l start base r m m′ U e L = part-of zeroAt l start 8 base 0 193 base 193 m m′ (omega arith) refl by L
   where
     by : (k c : ℕ) → k < 193 → c < 8 → bitAt 0 c ≡ cell l (start + c) (0 + k)
@@ -107,7 +109,8 @@ pub record Blocks (l : List ℕ) (start : ℕ → ℕ) (count n : ℕ) (before a
 pub blocks-none : (l : List ℕ) (start : ℕ → ℕ) (count : ℕ) (m : List ℕ) → Blocks l start count 0 m m
 blocks-none l start count m = record { size = refl; at = λ i p c h _ _. absurd (let z : ⊥ = omega arith in z); behind = λ x _. refl }
 
-pub blocks-more : (l : List ℕ) (start : ℕ → ℕ) (count n : ℕ) (m m′ m″ : List ℕ) → Part l (start n) count (n * 193) 0 193 m′ m″ → Blocks l start count n m m′ → Blocks l start count (n + 1) m m″
+pub blocks-more : (l : List ℕ) (start : ℕ → ℕ) (count n : ℕ) (m m′ m″ : List ℕ) → Part l (start n) count (n * 193) 0 193 m′ m″ →
+    Blocks l start count n m m′ → Blocks l start count (n + 1) m m″
 blocks-more l start count n m m′ m″ P B =
     record {
       size = P .size ∙ B .size;

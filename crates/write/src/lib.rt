@@ -127,8 +127,10 @@ fn unused(rows: &[u64], start: usize) -> bool
 
 // The first `count` of the 64 bytes of a pair that word `w` of its rows has.
 fn pair_part(links: &mut [u8], rows: &[u64], pair: usize, w: usize, count: usize)
-    requires { ⌜ ((LINK-ROWS + pair * KINDS + KINDS) * 4 ≤ length (now rows)) × (pair * INTERVALS + w * 64 + count ≤ length (now links)) × (w < 4) × (count ≤ 64) ⌝ }
-    ensures { λ u. ⌜ Part (now (rows .entry)) (LINK-ROWS + pair * KINDS) KINDS (pair * INTERVALS) (w * 64) (w * 64 + count) (now (links .entry)) (now (links .exit)) ⌝ }
+    requires { ⌜ ((LINK-ROWS + pair * KINDS + KINDS) * 4 ≤ length (now rows)) × (pair * INTERVALS + w * 64 + count ≤ length (now links))
+        × (w < 4) × (count ≤ 64) ⌝ }
+    ensures { λ u. ⌜ Part (now (rows .entry)) (LINK-ROWS + pair * KINDS) KINDS (pair * INTERVALS) (w * 64) (w * 64 + count)
+        (now (links .entry)) (now (links .exit)) ⌝ }
 {
     let square = transposed(rows, LINK_ROWS + pair * KINDS, w, KINDS);
     lay_bytes(links, pair * INTERVALS + w * 64, &square, count);

@@ -21,7 +21,13 @@ add-pair-at : tie.Need-add-pair-at Inv-loop μ-loop
 add-pair-at c = omega arith
 
 pair-at-requires : tie.Need-pair-at-requires Inv-loop μ-loop
-pair-at-requires c κs = let B = c .before .before .before .pre .0 .block _ (c .before .before .before .pre .1) (c .before .before .before .pre .2) in (c .before .before .before .pre .0, omega (arith, B .room), B .low _ (omega arith) (omega arith), c .before .before .loop .inv .1 .size ∙ c .before .before .before .pre .3)
+pair-at-requires c κs =
+    let B = c .before .before .before .pre .0 .block _ (c .before .before .before .pre .1) (c .before .before .before .pre .2) in (
+      c .before .before .before .pre .0,
+      omega (arith, B .room),
+      B .low _ (omega arith) (omega arith),
+      c .before .before .loop .inv .1 .size ∙ c .before .before .before .pre .3,
+    )
 
 add-k : tie.Need-add-k Inv-loop μ-loop
 add-k c = search needs
@@ -30,10 +36,17 @@ loop-less : tie.Need-loop-less Inv-loop μ-loop
 loop-less c = search needs
 
 loop-again : tie.Need-loop-again Inv-loop μ-loop
-loop-again c = (omega arith, span-more _ _ (c .before .before .before .before .pre .0) _ _ _ _ _ (c .before .before .before .loop .inv .1) (c .pair-at .ensures))
+loop-again c = (
+  omega arith,
+  span-more _ _ (c .before .before .before .before .pre .0) _ _ _ _ _ (c .before .before .before .loop .inv .1)
+      (c .pair-at .ensures),
+)
 
 returns : tie.Need-returns Inv-loop μ-loop
-returns c = span-block _ _ (c .before .before .pre .0) _ _ _ _ (c .before .before .pre .0 .block _ (c .before .before .pre .1) (c .before .before .pre .2)) (c .before .loop .inv .0) (c .loop-test .left) (c .before .loop .inv .1)
+returns c =
+    span-block _ _ (c .before .before .pre .0) _ _ _ _
+    (c .before .before .pre .0 .block _ (c .before .before .pre .1) (c .before .before .pre .2)) (c .before .loop .inv .0)
+    (c .loop-test .left) (c .before .loop .inv .1)
 
 pub block-pairs-spec : {M : Type 1} → statement M
 block-pairs-spec =

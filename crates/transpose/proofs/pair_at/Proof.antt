@@ -38,7 +38,9 @@ element-write-square-2 : tie.Need-element-write-square-2
 element-write-square-2 c = c .before .before .before .pre .0 .low _ (c .before .before .before .pre .1) (c .before .before .before .pre .2) .0
 
 returns : tie.Need-returns
-returns c = pair-done _ _ (c .before .before .before .pre .0) _ _ _ (c .before .before .before .pre .1) (c .before .before .before .pre .2) (c .before .before .before .pre .3) (c .exchange .ensures)
+returns c =
+    pair-done _ _ (c .before .before .before .pre .0) _ _ _ (c .before .before .before .pre .1) (c .before .before .before .pre .2)
+    (c .before .before .before .pre .3) (c .exchange .ensures)
 
 pub pair-at-spec : {M : Type 1} → statement M
 pair-at-spec =

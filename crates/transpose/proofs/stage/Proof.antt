@@ -19,7 +19,12 @@ loop-holds : tie.Need-loop-holds Inv-loop μ-loop
 loop-holds c = (zero-mod _, span-none _ _ _ _ (omega arith))
 
 block-pairs-requires : tie.Need-block-pairs-requires Inv-loop μ-loop
-block-pairs-requires c κs = (c .before .before .before .pre .0, c .before .loop-test .taken, c .before .before .loop .inv .0, c .before .before .loop .inv .1 .size ∙ c .before .before .before .pre .1)
+block-pairs-requires c κs = (
+  c .before .before .before .pre .0,
+  c .before .loop-test .taken,
+  c .before .before .loop .inv .0,
+  c .before .before .loop .inv .1 .size ∙ c .before .before .before .pre .1,
+)
 
 add-base : tie.Need-add-base Inv-loop μ-loop
 add-base c = search needs
@@ -31,7 +36,12 @@ loop-less : tie.Need-loop-less Inv-loop μ-loop
 loop-less c = omega (arith, c .before .before .before .before .pre .0 .some)
 
 loop-again : tie.Need-loop-again Inv-loop μ-loop
-loop-again c = (c .before .before .before .before .pre .0 .block _ (c .before .before .loop-test .taken) (c .before .before .before .loop .inv .0) .next, span-then _ _ (c .before .before .before .before .pre .0) _ _ _ _ _ _ (omega arith) (omega arith) (c .before .before .before .loop .inv .1) (c .block-pairs .ensures))
+loop-again c = (
+  c .before .before .before .before .pre .0 .block _ (c .before .before .loop-test .taken)
+      (c .before .before .before .loop .inv .0) .next,
+  span-then _ _ (c .before .before .before .before .pre .0) _ _ _ _ _ _ (omega arith) (omega arith)
+      (c .before .before .before .loop .inv .1) (c .block-pairs .ensures),
+)
 
 returns : tie.Need-returns Inv-loop μ-loop
 returns c = span-all _ _ (c .before .before .pre .0) _ _ _ (c .loop-test .left) (c .before .loop .inv .1)

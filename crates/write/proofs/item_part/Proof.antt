@@ -26,7 +26,10 @@ same-length : tie.Need-same-length
 same-length c = omega arith
 
 returns : tie.Need-returns
-returns c = words-part _ _ _ _ _ _ _ _ (c .before .before .before .before .before .before .before .before .pre .3) (c .before .before .before .before .before .transposed .ensures) (c .before .before .lay-words .ensures)
+returns c =
+    let transposed = c .before .before .before .before .before in
+    words-part _ _ _ _ _ _ _ _ (transposed .before .before .before .pre .3) (transposed .transposed .ensures)
+    (c .before .before .lay-words .ensures)
 
 pub item-part-spec : {M : Type 1} → statement M
 item-part-spec =

@@ -29,7 +29,10 @@ same-length : tie.Need-same-length
 same-length c = omega arith
 
 returns : tie.Need-returns
-returns c = bytes-part _ _ _ _ _ _ _ _ (c .before .before .before .before .before .before .before .before .pre .3) (c .before .before .before .before .before .transposed .ensures) (c .before .before .lay-bytes .ensures)
+returns c =
+    let transposed = c .before .before .before .before .before in
+    bytes-part _ _ _ _ _ _ _ _ (transposed .before .before .before .pre .3) (transposed .transposed .ensures)
+    (c .before .before .lay-bytes .ensures)
 
 pub pair-part-spec : {M : Type 1} → statement M
 pair-part-spec =

@@ -11,7 +11,9 @@ transpose-requires : tie.Need-transpose-requires
 transpose-requires c κs = omega arith
 
 returns : tie.Need-returns
-returns c = columns-is _ _ _ _ _ _ (c .before .before .before .before .pre .1) (c .before .before .before .before .pre .2) (c .before .before .square-of .ensures) (c .transpose .ensures)
+returns c =
+    columns-is _ _ _ _ _ _ (c .before .before .before .before .pre .1) (c .before .before .before .before .pre .2)
+    (c .before .before .square-of .ensures) (c .transpose .ensures)
 
 pub transposed-spec : {M : Type 1} → statement M
 transposed-spec = tie.close (tie.spec square-of-requires transpose-requires returns)
