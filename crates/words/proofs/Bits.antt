@@ -2,16 +2,17 @@
 use mathlib.Core.Path.{_≡_, refl, sym, ap, _∙_, subst}
 use mathlib.Core.Logic.{_⊎_, inl, inr, ⊎-elim}
 use Prim.Native.Nat.{ℕ, zero, suc, _+_, _*_, _-_, _/_, _%_, _^_, _<_, _≤_, max, min}
-use native.Mathlib.Nat.{mod-lt, zero-lt-suc, div-eq-of-lt, mul-add-mod-self-right, mod-eq-of-lt, mul-mod-left, pow-suc, one-mul, div-self, div-one, lt-of-lt-of-le}
+use native.Mathlib.Nat.{mod-lt, zero-lt-suc, div-eq-of-lt, mul-add-mod-self-right, mod-eq-of-lt}
+use native.Mathlib.Nat.{mul-mod-left, pow-suc, one-mul, div-self, div-one, lt-of-lt-of-le}
 use native.Mathlib.Omega.{arith}
 use native.Mathlib.Numerals.{add-one}
 use native.Mathlib.Decide.{decLe, ℕ-discrete}
 use lib.Dec.{lit<}
 use lib.Arith.{lt-one}
 use lib.Bits.{bitAnd, bitOr, bitXor, differ, and-mask, and-shr, and-step, or-shr, or-step, xor-shr, xor-step}
-use lib.Pow.{pow-pos, pow-add, pow-lt, pow-mono, shl-shr, shl-exact, shr-shr, shr-lt, ones-split, ones-lt, high}
+use lib.Pow.{pow-pos, pow-add, pow-lt, pow-mono, shl-shr, shl-exact, shr-lt, ones-split, ones-lt, high, field, mod-mod-pow}
 use lib.Count.{trailingZeros, leadingZeros, under, leading-length}
-use Rattle.words.specs.Bit.{bitAt, Ones, Lowest, Length}
+use Rattle.words.specs.Bit.{bitAt, bit-suc, Ones, Lowest-bit, Length}
 
 two-pos : 0 < 2
 two-pos = zero-lt-suc 1
@@ -49,14 +50,19 @@ bit-above x k p h l = ap (λ (y : ℕ). y % 2) (div-eq-of-lt (lt-of-lt-of-le h (
 pub bit-zero : (p : ℕ) → bitAt 0 p ≡ 0
 bit-zero p = bit-above 0 0 p (zero-lt-suc 0) (omega arith)
 
--- the lowest bit, and the others
+-- the lowest bit
 pub bit-0 : (x : ℕ) → bitAt x 0 ≡ x % 2
 unfolding bitAt
 bit-0 x = ap (λ (y : ℕ). y % 2) (div-one x)
 
-pub bit-suc : (x p : ℕ) → bitAt x (suc p) ≡ bitAt (x / 2) p
+-- the low bits of a number that is cut
+pub cut-bit : (x n k : ℕ) → k < n → bitAt (x % 2 ^ n) k ≡ bitAt x k
 unfolding bitAt
-bit-suc x p = ap (λ (y : ℕ). y % 2) (sym (shr-shr x 1 p ∙ ap (λ (m : ℕ). x / 2 ^ m) (let e : 1 + p ≡ suc p = omega arith in e)))
+cut-bit x n k h =
+    let e : (n - suc k) + 1 + k ≡ n = omega arith in
+    ap (λ (m : ℕ). x % 2 ^ m / 2 ^ k % 2) (sym e)
+    ∙ ap (λ (y : ℕ). y % 2) (field x ((n - suc k) + 1) k)
+    ∙ mod-mod-pow (x / 2 ^ k) (n - suc k) 1
 
 max-lt : (a b : ℕ) → a < 2 → b < 2 → max a b < 2
 max-lt a b p q = omega arith
@@ -159,8 +165,11 @@ lowest-of (suc k) x h l = go (x % 2) refl (lowest-of k (x / 2))
     half = shr-lt k 1 (subst (λ (m : ℕ). x < 2 ^ m) (sym (add-one k)) l)
 
     go : (d : ℕ) → x % 2 ≡ d
-        → (0 < x / 2 → x / 2 < 2 ^ k → (trailingZeros k (x / 2) < k) × (bitAt (x / 2) (trailingZeros k (x / 2)) ≡ 1) × ((p : ℕ) → p < trailingZeros k (x / 2) → bitAt (x / 2) p ≡ 0))
-        → (under d (trailingZeros k (x / 2)) < suc k) × (bitAt x (under d (trailingZeros k (x / 2))) ≡ 1) × ((p : ℕ) → p < under d (trailingZeros k (x / 2)) → bitAt x p ≡ 0)
+        → (0 < x / 2 → x / 2 < 2 ^ k →
+        (trailingZeros k (x / 2) < k) × (bitAt (x / 2) (trailingZeros k (x / 2)) ≡ 1)
+        × ((p : ℕ) → p < trailingZeros k (x / 2) → bitAt (x / 2) p ≡ 0))
+        → (under d (trailingZeros k (x / 2)) < suc k) × (bitAt x (under d (trailingZeros k (x / 2))) ≡ 1)
+        × ((p : ℕ) → p < under d (trailingZeros k (x / 2)) → bitAt x p ≡ 0)
     go zero e ih =
         let w = ih (omega arith) half in
         (omega (arith, w .0), bit-suc x _ ∙ w .1, λ p b. below w p b)
@@ -172,7 +181,7 @@ lowest-of (suc k) x h l = go (x % 2) refl (lowest-of k (x / 2))
     go (suc zero) e ih = (zero-lt-suc k, bit-0 x ∙ e, λ p b. absurd (let z : ⊥ = omega arith in z))
     go (suc (suc d)) e ih = absurd (let m = mod-lt x two-pos in let z : ⊥ = omega arith in z)
 
-pub lowest-word : (x : ℕ) → 0 < x → x < 2 ^ 64 → Lowest x (trailingZeros 64 x)
+pub lowest-word : (x : ℕ) → 0 < x → x < 2 ^ 64 → Lowest-bit x (trailingZeros 64 x)
 lowest-word x h l = let w = lowest-of 64 x h l in record { small = w .0; set = w .1; below = w .2 }
 
 -- ---- the length
@@ -187,7 +196,9 @@ length-word x h =
     subst (λ (m : ℕ). Length x m) e
     (record {
       small = omega arith;
-      some = λ s. ⊎-elim (λ (z : w .0 ≡ 0). absurd (let q = subst (λ (m : ℕ). x < 2 ^ m) z (w .2) in let y : ⊥ = omega arith in y)) (λ ne. omega arith) (eq-or-ne (w .0) 0);
+      some = λ s.
+          ⊎-elim (λ (z : w .0 ≡ 0). absurd (let q = subst (λ (m : ℕ). x < 2 ^ m) z (w .2) in let y : ⊥ = omega arith in y))
+          (λ ne. omega arith) (eq-or-ne (w .0) 0);
       top = λ p q. top-bit x p (subst (λ (m : ℕ). x < 2 ^ m) (sym q ∙ add-one p) (w .2)) (subst (λ (m : ℕ). 2 ^ m ≤ 2 * x + 1) (sym q ∙ add-one p) (w .3));
       above = λ p q. bit-above x (w .0) p (w .2) q;
     })

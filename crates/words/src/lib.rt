@@ -1,7 +1,7 @@
 // Bits of a 64-bit word.
 ghost use mathlib.Core.Path.{_≡_};
 ghost use Prim.Native.Nat.{_<_};
-ghost use Rattle.words.specs.Bit.{bitAt, Ones, Lowest, Length, Minus};
+ghost use Rattle.words.specs.Bit.{bitAt, Ones, Lowest-bit, Length, Minus};
 
 // Bit `k` of `x`: 0 or 1.
 pub fn bit(x: u64, k: usize) -> u64
@@ -34,7 +34,7 @@ pub fn minus(n: usize, k: usize) -> usize
 // The lowest set bit.
 pub fn lowest(x: u64) -> usize
     requires { ⌜ 0 < x ⌝ }
-    ensures { λ r. ⌜ Lowest x r ⌝ }
+    ensures { λ r. ⌜ Lowest-bit x r ⌝ }
 {
     u64::trailing_zeros(x) as usize
 }

@@ -1,30 +1,32 @@
--- Squares read, turned and laid: each loop sets one place more, and a turned square has the cells of its rows.
+-- Squares read, transposed and laid: each loop sets one place more, and a transposed square has the cells of its rows.
 use mathlib.Core.Path.{_≡_, refl, sym, ap, _∙_, subst}
 use mathlib.Core.Logic.{_⊎_, inl, inr, ⊎-elim}
 use mathlib.Core.List.{List}
-use Prim.Native.Nat.{ℕ, _+_, _*_, _-_, _/_, _%_, _^_, _<_, _≤_}
+use Prim.Native.Nat.{ℕ, _+_, _*_, _-_, _%_, _<_, _≤_}
 use native.Mathlib.Omega.{arith}
 use lib.ListN.{length, getD, set, length-set, replicate, length-replicate}
 use lib.Seq.{getD-set-same, getD-set-other}
-use lib.Pow.{field, mod-mod-pow}
 use Rattle.words.specs.Bit.{bitAt}
 use Rattle.words.proofs.Bits.{eq-or-ne}
 use Rattle.store.specs.Cells.{cell}
 use Rattle.store.proofs.Steps.{cell-is}
-use Rattle.flip.specs.Flip.{Flipped}
-use Rattle.write.specs.Parts.{Square, Turned, Laid}
+use Rattle.transpose.specs.Transposed.{Transposed}
+use Rattle.write.specs.Parts.{Square, Columns, Laid}
 
 -- ---- a square read
 pub square-none : (l : List ℕ) (start w : ℕ) → Square l start w 0 (replicate 64 0)
 square-none l start w = record { size = length-replicate {A = ℕ} 64 0; at = λ k h. absurd (let z : ⊥ = omega arith in z) }
 
-pub square-more : (l : List ℕ) (start w n : ℕ) (t : List ℕ) → n < 64 → Square l start w n t → Square l start w (n + 1) (set t n (getD l (start * 4 + w + n * 4) 0))
+pub square-more : (l : List ℕ) (start w n : ℕ) (t : List ℕ) → n < 64 → Square l start w n t →
+    Square l start w (n + 1) (set t n (getD l (start * 4 + w + n * 4) 0))
 square-more l start w n t h S =
     let s = S .size in
     record {
       size = length-set t n _ ∙ s;
       at = λ k i. ⊎-elim
-          (λ (e : k ≡ n). subst (λ (x : ℕ). getD (set t n (getD l (start * 4 + w + n * 4) 0)) x 0 ≡ getD l (start * 4 + w + x * 4) 0) (sym e) (getD-set-same t n _ 0 (omega arith)))
+          (λ (e : k ≡ n).
+          subst (λ (x : ℕ). getD (set t n (getD l (start * 4 + w + n * 4) 0)) x 0 ≡ getD l (start * 4 + w + x * 4) 0) (sym e)
+          (getD-set-same t n _ 0 (omega arith)))
           (λ ne. getD-set-other t n k _ 0 ne ∙ S .at k (omega arith))
           (eq-or-ne k n);
     }
@@ -32,9 +34,9 @@ square-more l start w n t h S =
 pub square-all : (l : List ℕ) (start w n count : ℕ) (t : List ℕ) → count ≤ n → Square l start w n t → Square l start w count t
 square-all l start w n count t h S = record { size = S .size; at = λ k i. S .at k (omega arith) }
 
--- ---- a square turned
-pub turned-is : (l : List ℕ) (start w count : ℕ) (t u : List ℕ) → w < 4 → count ≤ 64 → Square l start w count t → Flipped t u → Turned l start w count u
-turned-is l start w count t u h g S F = record { size = F .size ∙ S .size; at = by }
+-- ---- a square transposed
+pub columns-is : (l : List ℕ) (start w count : ℕ) (t u : List ℕ) → w < 4 → count ≤ 64 → Square l start w count t → Transposed t u → Columns l start w count u
+columns-is l start w count t u h g S F = record { size = F .size ∙ S .size; at = by }
   where
     by : (k c : ℕ) → k < 64 → c < count → bitAt (getD u k 0) c ≡ cell l (start + c) (w * 64 + k)
     by k c i j =
@@ -44,20 +46,12 @@ turned-is l start w count t u h g S F = record { size = F .size ∙ S .size; at 
         ∙ ap (λ (x : ℕ). bitAt (getD l (start * 4 + w + c * 4) 0) x) m
         ∙ cell-is l (start + c) (w * 64 + k) (start * 4 + w + c * 4) (omega arith) (omega arith)
 
--- the lowest byte has the eight lowest bits
-pub byte-bit : (x c : ℕ) → c < 8 → bitAt (x % 256) c ≡ bitAt x c
-unfolding bitAt
-byte-bit x c h =
-    let e : (7 - c) + 1 + c ≡ 8 = omega arith in
-    ap (λ (m : ℕ). x % 2 ^ m / 2 ^ c % 2) (sym e)
-    ∙ ap (λ (y : ℕ). y % 2) (field x ((7 - c) + 1) c)
-    ∙ mod-mod-pow (x / 2 ^ c) (7 - c) 1
-
 -- ---- entries laid
 pub laid-none : (value : ℕ → ℕ) (base : ℕ) (l : List ℕ) → Laid value base 0 l l
 laid-none value base l = record { size = refl; at = λ k h. absurd (let z : ⊥ = omega arith in z); others = λ x _. refl }
 
-pub laid-more : (value : ℕ → ℕ) (base n : ℕ) (l m : List ℕ) → base + n < length m → Laid value base n l m → Laid value base (n + 1) l (set m (base + n) (value n))
+pub laid-more : (value : ℕ → ℕ) (base n : ℕ) (l m : List ℕ) → base + n < length m → Laid value base n l m →
+    Laid value base (n + 1) l (set m (base + n) (value n))
 laid-more value base n l m h L =
     record {
       size = length-set m (base + n) _ ∙ L .size;

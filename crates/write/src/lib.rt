@@ -1,10 +1,21 @@
 // The lent tables, written from one store of rows. Rows are sets of intervals and entries are sets of
-// labels or link kinds, so squares of bits are turned: 64 entries come from 64 words at a time.
+// labels or link kinds, so squares of bits are transposed: 64 entries come from 64 words at a time.
 ghost use mathlib.Core.Path.{_≡_};
 ghost use Prim.Native.Nat.{_+_, _*_, _<_, _≤_};
 ghost use lib.ListN.{length};
+ghost use Rattle.terms.specs.Limits.{LABELS, KINDS, INTERVALS, LABEL-ENTRIES, LINK-ENTRIES};
+ghost use Rattle.store.specs.Numbers.{LINK-ROWS, STORE-WORDS};
 ghost use Rattle.write.specs.Written.{LabelsWritten, LinksWritten};
-ghost use Rattle.write.specs.Parts.{Square, Turned, Laid, wordsOf, bytesOf, zeros, Part, Unused};
+ghost use Rattle.write.specs.Parts.{Square, Columns, Laid, wordsOf, bytesOf, zeroAt, Part, Unused};
+use store::ITEMS;
+use store::KINDS;
+use store::LABELS;
+use store::LINK_ROWS;
+use store::PAIRS;
+use terms::INTERVALS;
+
+// The words of the rows of a pair.
+const PAIR_WORDS: usize = KINDS * 4;
 
 // Word `w` of each of the `count` rows from `start` on, and zeros behind.
 fn square_of(rows: &[u64], start: usize, w: usize, count: usize) -> [u64; 64]
@@ -22,12 +33,12 @@ fn square_of(rows: &[u64], start: usize, w: usize, count: usize) -> [u64; 64]
 }
 
 // The entries of the 64 intervals from w * 64 on, from the `count` rows from `start` on.
-fn turned(rows: &[u64], start: usize, w: usize, count: usize) -> [u64; 64]
+fn transposed(rows: &[u64], start: usize, w: usize, count: usize) -> [u64; 64]
     requires { ⌜ (start * 4 + count * 4 ≤ length (now rows)) × (w < 4) × (count ≤ 64) ⌝ }
-    ensures { λ r. ⌜ Turned (now (rows .entry)) start w count r ⌝ }
+    ensures { λ r. ⌜ Columns (now (rows .entry)) start w count r ⌝ }
 {
     let mut square = square_of(rows, start, w, count);
-    flip::flip(&mut square);
+    transpose::transpose(&mut square);
     square
 }
 
@@ -55,13 +66,13 @@ fn lay_bytes(links: &mut [u8], base: usize, square: &[u64; 64], count: usize)
     }
 }
 
-// Clears the 193 bytes from `base` on.
+// Clears the bytes of a pair, from `base` on.
 fn clear(links: &mut [u8], base: usize)
-    requires { ⌜ base + 193 ≤ length (now links) ⌝ }
-    ensures { λ u. ⌜ Laid zeros base 193 (now (links .entry)) (now (links .exit)) ⌝ }
+    requires { ⌜ base + INTERVALS ≤ length (now links) ⌝ }
+    ensures { λ u. ⌜ Laid zeroAt base INTERVALS (now (links .entry)) (now (links .exit)) ⌝ }
 {
     let mut k = 0;
-    while k < 193 {
+    while k < INTERVALS {
         links[base + k] = 0;
         k += 1;
     }
@@ -69,17 +80,17 @@ fn clear(links: &mut [u8], base: usize)
 
 // The first `count` of the 64 entries of an item that word `w` of its rows has.
 fn item_part(labels: &mut [u64], rows: &[u64], item: usize, w: usize, count: usize)
-    requires { ⌜ (item * 256 + 256 ≤ length (now rows)) × (item * 193 + w * 64 + count ≤ length (now labels)) × (w < 4) × (count ≤ 64) ⌝ }
-    ensures { λ u. ⌜ Part (now (rows .entry)) (item * 64) 64 (item * 193) (w * 64) (w * 64 + count) (now (labels .entry)) (now (labels .exit)) ⌝ }
+    requires { ⌜ ((item * LABELS + LABELS) * 4 ≤ length (now rows)) × (item * INTERVALS + w * 64 + count ≤ length (now labels)) × (w < 4) × (count ≤ 64) ⌝ }
+    ensures { λ u. ⌜ Part (now (rows .entry)) (item * LABELS) LABELS (item * INTERVALS) (w * 64) (w * 64 + count) (now (labels .entry)) (now (labels .exit)) ⌝ }
 {
-    let square = turned(rows, item * 64, w, 64);
-    lay_words(labels, item * 193 + w * 64, &square, count);
+    let square = transposed(rows, item * LABELS, w, LABELS);
+    lay_words(labels, item * INTERVALS + w * 64, &square, count);
 }
 
-// The 193 entries of an item.
+// The entries of an item.
 fn write_item(labels: &mut [u64], rows: &[u64], item: usize)
-    requires { ⌜ (item * 256 + 256 ≤ length (now rows)) × (item * 193 + 193 ≤ length (now labels)) ⌝ }
-    ensures { λ u. ⌜ Part (now (rows .entry)) (item * 64) 64 (item * 193) 0 193 (now (labels .entry)) (now (labels .exit)) ⌝ }
+    requires { ⌜ ((item * LABELS + LABELS) * 4 ≤ length (now rows)) × (item * INTERVALS + INTERVALS ≤ length (now labels)) ⌝ }
+    ensures { λ u. ⌜ Part (now (rows .entry)) (item * LABELS) LABELS (item * INTERVALS) 0 INTERVALS (now (labels .entry)) (now (labels .exit)) ⌝ }
 {
     item_part(labels, rows, item, 0, 64);
     item_part(labels, rows, item, 1, 64);
@@ -87,27 +98,27 @@ fn write_item(labels: &mut [u64], rows: &[u64], item: usize)
     item_part(labels, rows, item, 3, 1);
 }
 
-// Writes the label table: entry item * 193 + interval, bit `label`, from row item * 64 + label.
+// Writes the label table: entry item * INTERVALS + interval, bit `label`, from row item * LABELS + label.
 pub fn write_labels(labels: &mut [u64], rows: &[u64])
-    requires { ⌜ (12288 ≤ length (now rows)) × (3088 ≤ length (now labels)) ⌝ }
+    requires { ⌜ (STORE-WORDS ≤ length (now rows)) × (LABEL-ENTRIES ≤ length (now labels)) ⌝ }
     ensures { λ u. ⌜ LabelsWritten (now (rows .entry)) (now (labels .entry)) (now (labels .exit)) ⌝ }
 {
     let mut item = 0;
-    while item < 16 {
+    while item < ITEMS {
         write_item(labels, rows, item);
         item += 1;
     }
 }
 
-// True where the eight rows from `start` on are empty.
+// True where the rows of a pair, from `start` on, are empty.
 fn unused(rows: &[u64], start: usize) -> bool
-    requires { ⌜ start * 4 + 32 ≤ length (now rows) ⌝ }
+    requires { ⌜ start * 4 + KINDS * 4 ≤ length (now rows) ⌝ }
     ensures { λ r. ⌜ Unused (now (rows .entry)) start r ⌝ }
 {
     let base = start * 4;
     let mut any = 0u64;
     let mut k = 0;
-    while k < 32 {
+    while k < PAIR_WORDS {
         any = any | rows[base + k];
         k += 1;
     }
@@ -116,20 +127,22 @@ fn unused(rows: &[u64], start: usize) -> bool
 
 // The first `count` of the 64 bytes of a pair that word `w` of its rows has.
 fn pair_part(links: &mut [u8], rows: &[u64], pair: usize, w: usize, count: usize)
-    requires { ⌜ (4096 + pair * 32 + 32 ≤ length (now rows)) × (pair * 193 + w * 64 + count ≤ length (now links)) × (w < 4) × (count ≤ 64) ⌝ }
-    ensures { λ u. ⌜ Part (now (rows .entry)) (1024 + pair * 8) 8 (pair * 193) (w * 64) (w * 64 + count) (now (links .entry)) (now (links .exit)) ⌝ }
+    requires { ⌜ ((LINK-ROWS + pair * KINDS + KINDS) * 4 ≤ length (now rows)) × (pair * INTERVALS + w * 64 + count ≤ length (now links))
+        × (w < 4) × (count ≤ 64) ⌝ }
+    ensures { λ u. ⌜ Part (now (rows .entry)) (LINK-ROWS + pair * KINDS) KINDS (pair * INTERVALS) (w * 64) (w * 64 + count)
+        (now (links .entry)) (now (links .exit)) ⌝ }
 {
-    let square = turned(rows, 1024 + pair * 8, w, 8);
-    lay_bytes(links, pair * 193 + w * 64, &square, count);
+    let square = transposed(rows, LINK_ROWS + pair * KINDS, w, KINDS);
+    lay_bytes(links, pair * INTERVALS + w * 64, &square, count);
 }
 
-// The 193 bytes of a pair.
+// The bytes of a pair.
 fn write_pair(links: &mut [u8], rows: &[u64], pair: usize)
-    requires { ⌜ (4096 + pair * 32 + 32 ≤ length (now rows)) × (pair * 193 + 193 ≤ length (now links)) ⌝ }
-    ensures { λ u. ⌜ Part (now (rows .entry)) (1024 + pair * 8) 8 (pair * 193) 0 193 (now (links .entry)) (now (links .exit)) ⌝ }
+    requires { ⌜ ((LINK-ROWS + pair * KINDS + KINDS) * 4 ≤ length (now rows)) × (pair * INTERVALS + INTERVALS ≤ length (now links)) ⌝ }
+    ensures { λ u. ⌜ Part (now (rows .entry)) (LINK-ROWS + pair * KINDS) KINDS (pair * INTERVALS) 0 INTERVALS (now (links .entry)) (now (links .exit)) ⌝ }
 {
-    if unused(rows, 1024 + pair * 8) {
-        clear(links, pair * 193);
+    if unused(rows, LINK_ROWS + pair * KINDS) {
+        clear(links, pair * INTERVALS);
         return;
     }
     pair_part(links, rows, pair, 0, 64);
@@ -138,13 +151,13 @@ fn write_pair(links: &mut [u8], rows: &[u64], pair: usize)
     pair_part(links, rows, pair, 3, 1);
 }
 
-// Writes the link table: byte pair * 193 + interval, bit `kind`, from row 1024 + pair * 8 + kind.
+// Writes the link table: byte pair * INTERVALS + interval, bit `kind`, from row LINK_ROWS + pair * KINDS + kind.
 pub fn write_links(links: &mut [u8], rows: &[u64])
-    requires { ⌜ (12288 ≤ length (now rows)) × (49408 ≤ length (now links)) ⌝ }
+    requires { ⌜ (STORE-WORDS ≤ length (now rows)) × (LINK-ENTRIES ≤ length (now links)) ⌝ }
     ensures { λ u. ⌜ LinksWritten (now (rows .entry)) (now (links .entry)) (now (links .exit)) ⌝ }
 {
     let mut pair = 0;
-    while pair < 256 {
+    while pair < PAIRS {
         write_pair(links, rows, pair);
         pair += 1;
     }

@@ -1,16 +1,17 @@
 -- Invariant: the first `k` bytes are laid.
+use Rattle.terms.specs.Limits.{INTERVALS}
 use Rattle.write.proofs.Squares.{laid-none, laid-more, laid-all}
-use Rattle.write.specs.Parts.{Laid, zeros}
+use Rattle.write.specs.Parts.{Laid, zeroAt}
 use Prim.Native.Nat.{_-_, _≤_}
 use native.Mathlib.Omega.{arith}
 use Rattle.write.proofs.clear.Statement.{statement}
 use Rattle.write.proofs.clear.Tie as tie
 
 abbrev Inv-loop : tie.InvT-loop
-Inv-loop links₀ base k₀ links k = (k ≤ 193) × Laid zeros base k links₀ links
+Inv-loop links₀ base k₀ links k = (k ≤ INTERVALS) × Laid zeroAt base k links₀ links
 
 abbrev μ-loop : tie.MeasureT-loop
-μ-loop links₀ base k₀ links k = 193 - k
+μ-loop links₀ base k₀ links k = INTERVALS - k
 
 loop-holds : tie.Need-loop-holds Inv-loop μ-loop
 loop-holds c = (omega arith, laid-none _ _ _)

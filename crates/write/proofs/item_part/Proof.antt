@@ -1,14 +1,14 @@
--- A turned square, laid: its words are the entries.
+-- A transposed square, laid: its words are the entries.
 use Rattle.write.proofs.Tables.{words-part}
 use native.Mathlib.Omega.{arith}
 use Rattle.write.proofs.item_part.Statement.{statement}
 use Rattle.write.proofs.item_part.Tie as tie
 
-mul-turned : tie.Need-mul-turned
-mul-turned c = omega arith
+mul-transposed : tie.Need-mul-transposed
+mul-transposed c = omega arith
 
-turned-requires : tie.Need-turned-requires
-turned-requires c κs = (omega arith, omega arith, omega arith)
+transposed-requires : tie.Need-transposed-requires
+transposed-requires c κs = (omega arith, omega arith, omega arith)
 
 mul-lay-words : tie.Need-mul-lay-words
 mul-lay-words c = omega arith
@@ -26,14 +26,17 @@ same-length : tie.Need-same-length
 same-length c = omega arith
 
 returns : tie.Need-returns
-returns c = words-part _ _ _ _ _ _ _ _ (c .before .before .before .before .before .before .before .before .pre .3) (c .before .before .before .before .before .turned .ensures) (c .before .before .lay-words .ensures)
+returns c =
+    let transposed = c .before .before .before .before .before in
+    words-part _ _ _ _ _ _ _ _ (transposed .before .before .before .pre .3) (transposed .transposed .ensures)
+    (c .before .before .lay-words .ensures)
 
 pub item-part-spec : {M : Type 1} → statement M
 item-part-spec =
     tie.close
     (tie.spec
-    mul-turned
-    turned-requires
+    mul-transposed
+    transposed-requires
     mul-lay-words
     mul-lay-words-2
     add-lay-words

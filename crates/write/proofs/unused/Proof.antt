@@ -1,15 +1,16 @@
 -- Invariant: where `any` is 0, the first `k` words are.
+use Rattle.terms.specs.Limits.{KINDS}
 use Rattle.write.proofs.Tables.{Clear, clear-none, clear-more, clear-all}
-use Prim.Native.Nat.{_-_, _≤_}
+use Prim.Native.Nat.{_*_, _-_, _≤_}
 use native.Mathlib.Omega.{arith}
 use Rattle.write.proofs.unused.Statement.{statement}
 use Rattle.write.proofs.unused.Tie as tie
 
 abbrev Inv-loop : tie.InvT-loop
-Inv-loop rows start base any₀ k₀ any k = (k ≤ 32) × Clear rows start k any
+Inv-loop rows start base any₀ k₀ any k = (k ≤ KINDS * 4) × Clear rows start k any
 
 abbrev μ-loop : tie.MeasureT-loop
-μ-loop rows start base any₀ k₀ any k = 32 - k
+μ-loop rows start base any₀ k₀ any k = KINDS * 4 - k
 
 mul-base : tie.Need-mul-base Inv-loop μ-loop
 mul-base c = omega arith

@@ -20,7 +20,11 @@ same-length : tie.Need-same-length
 same-length c = omega arith
 
 returns : tie.Need-returns
-returns c = four-parts _ _ _ _ _ _ _ _ _ (c .before .before .before .before .before .before .before .before .before .before .before .before .before .before .item-part .ensures) (c .before .before .before .before .before .before .before .before .before .before .item-part2 .ensures) (c .before .before .before .before .before .before .item-part3 .ensures) (c .before .before .item-part4 .ensures)
+returns c =
+    let item-part3 = c .before .before .before .before .before .before in
+    let item-part = item-part3 .before .before .before .before .before .before .before .before in
+    four-parts _ _ _ _ _ _ _ _ _ (item-part .item-part .ensures) (item-part3 .before .before .before .before .item-part2 .ensures)
+    (item-part3 .item-part3 .ensures) (c .before .before .item-part4 .ensures)
 
 pub write-item-spec : {M : Type 1} → statement M
 write-item-spec =

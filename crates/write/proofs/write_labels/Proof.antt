@@ -1,4 +1,5 @@
 -- Invariant: the blocks of the first `item` items are written.
+use Rattle.terms.specs.Limits.{ITEMS, LABELS}
 use Rattle.write.proofs.Tables.{Blocks, itemStart, blocks-none, blocks-more, labels-written}
 use Prim.Native.Nat.{_-_, _≤_}
 use native.Mathlib.Omega.{arith}
@@ -6,10 +7,10 @@ use Rattle.write.proofs.write_labels.Statement.{statement}
 use Rattle.write.proofs.write_labels.Tie as tie
 
 abbrev Inv-loop : tie.InvT-loop
-Inv-loop labels₀ rows item₀ labels item = (item ≤ 16) × Blocks rows itemStart 64 item labels₀ labels
+Inv-loop labels₀ rows item₀ labels item = (item ≤ ITEMS) × Blocks rows itemStart LABELS item labels₀ labels
 
 abbrev μ-loop : tie.MeasureT-loop
-μ-loop labels₀ rows item₀ labels item = 16 - item
+μ-loop labels₀ rows item₀ labels item = ITEMS - item
 
 loop-holds : tie.Need-loop-holds Inv-loop μ-loop
 loop-holds c = (omega arith, blocks-none _ _ _ _)

@@ -1,4 +1,6 @@
 -- Invariant: the blocks of the first `pair` pairs are written.
+use Rattle.store.specs.Numbers.{PAIRS}
+use Rattle.terms.specs.Limits.{KINDS}
 use Rattle.write.proofs.Tables.{Blocks, pairStart, blocks-none, blocks-more, links-written}
 use Prim.Native.Nat.{_-_, _≤_}
 use native.Mathlib.Omega.{arith}
@@ -6,10 +8,10 @@ use Rattle.write.proofs.write_links.Statement.{statement}
 use Rattle.write.proofs.write_links.Tie as tie
 
 abbrev Inv-loop : tie.InvT-loop
-Inv-loop links₀ rows pair₀ links pair = (pair ≤ 256) × Blocks rows pairStart 8 pair links₀ links
+Inv-loop links₀ rows pair₀ links pair = (pair ≤ PAIRS) × Blocks rows pairStart KINDS pair links₀ links
 
 abbrev μ-loop : tie.MeasureT-loop
-μ-loop links₀ rows pair₀ links pair = 256 - pair
+μ-loop links₀ rows pair₀ links pair = PAIRS - pair
 
 loop-holds : tie.Need-loop-holds Inv-loop μ-loop
 loop-holds c = (omega arith, blocks-none _ _ _ _)

@@ -23,7 +23,9 @@ same-length : tie.Need-same-length
 same-length c = omega arith
 
 returns : tie.Need-returns
-returns c = unused-part _ _ _ _ _ _ (c .before .before .before .before .before .unused .ensures) (c .before .before .before .before .if1 .taken) (c .before .before .clear .ensures)
+returns c =
+    let unused = c .before .before .before .before .before in
+    unused-part _ _ _ _ _ _ (unused .unused .ensures) (c .before .before .before .before .if1 .taken) (c .before .before .clear .ensures)
 
 pair-part-requires : tie.Need-pair-part-requires
 pair-part-requires c κs = (omega arith, omega arith, omega arith, omega arith)
@@ -41,7 +43,11 @@ same-length-2 : tie.Need-same-length-2
 same-length-2 c = omega arith
 
 returns-2 : tie.Need-returns-2
-returns-2 c = four-parts _ _ _ _ _ _ _ _ _ (c .before .before .before .before .before .before .before .before .before .before .before .before .before .before .pair-part .ensures) (c .before .before .before .before .before .before .before .before .before .before .pair-part2 .ensures) (c .before .before .before .before .before .before .pair-part3 .ensures) (c .before .before .pair-part4 .ensures)
+returns-2 c =
+    let pair-part3 = c .before .before .before .before .before .before in
+    let pair-part = pair-part3 .before .before .before .before .before .before .before .before in
+    four-parts _ _ _ _ _ _ _ _ _ (pair-part .pair-part .ensures) (pair-part3 .before .before .before .before .pair-part2 .ensures)
+    (pair-part3 .pair-part3 .ensures) (c .before .before .pair-part4 .ensures)
 
 pub write-pair-spec : {M : Type 1} → statement M
 write-pair-spec =
