@@ -47,7 +47,8 @@ lowest-absent : (f : ℕ → Bool) (n a : ℕ) → ((q : ℕ) → q < a + n → 
 lowest-absent f zero a h = refl
 lowest-absent f (suc n) a h = rw (h a (omega arith), lowestOf) (lowest-absent f n (suc a) (λ q l. h q (omega arith)))
 
-pub clash-found : (labels : List ℕ) (item : ℕ) → item < 16 → ((a : ℕ) → a < item → neverIn labels a ≡ false) → neverIn labels item ≡ true → item ≡ clashItem labels
+pub clash-found : (labels : List ℕ) (item : ℕ) → item < 16 → ((a : ℕ) → a < item → neverIn labels a ≡ false) → neverIn labels item ≡ true →
+    item ≡ clashItem labels
 unfolding clashItem
 clash-found labels item l h t = sym (ap itemOr16 (lowest-first (neverIn labels) ITEMS 0 item item (omega arith) l h t))
 
@@ -69,5 +70,6 @@ module _ (labels links : List ℕ) (x : Atom) (p : ℕ) where
   pub label-held : (a A i k s : ℕ) → x ≡ Has a A → i ≡ a → k ≡ A → s ≡ bitAt (getD labels (i * 193 + p) 0) k → eqb s 1 ≡ holdsIn labels links x p
   label-held a A i k s e f g h = rw (e, h, f, g)
 
-  pub link-held : (a r b i j k w s : ℕ) → x ≡ Linked a r b → i ≡ a → j ≡ b → k ≡ r → w ≡ getD links ((i * 16 + j) * 193 + p) 0 → s ≡ bitAt w k → eqb s 1 ≡ holdsIn labels links x p
+  pub link-held : (a r b i j k w s : ℕ) → x ≡ Linked a r b → i ≡ a → j ≡ b → k ≡ r → w ≡ getD links ((i * 16 + j) * 193 + p) 0 →
+      s ≡ bitAt w k → eqb s 1 ≡ holdsIn labels links x p
   link-held a r b i j k w s e f g d v h = rw (e, h, v, f, g, d)

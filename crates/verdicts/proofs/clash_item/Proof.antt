@@ -25,7 +25,8 @@ returns : tie.Need-returns Inv-loop μ-loop
 returns c =
     let l = c .before .before in
     let s = l .before .before .before in
-    clash-found (s .args .labels .now) (l .before .loop .item) (l .loop-test .taken) (l .before .loop .inv .1) (sym (c .before .has-never .ensures) ∙ c .if1 .taken)
+    clash-found (s .args .labels .now) (l .before .loop .item) (l .loop-test .taken) (l .before .loop .inv .1)
+    (sym (c .before .has-never .ensures) ∙ c .if1 .taken)
 
 add-item : tie.Need-add-item Inv-loop μ-loop
 add-item c = omega (arith, c .before .before .loop-test .taken)
@@ -38,7 +39,8 @@ loop-again c =
     let l = c .before .before in
     let s = l .before .before .before in (
       omega (arith, l .loop-test .taken),
-      below-more (λ a. neverIn (s .args .labels .now) a ≡ false) (l .before .loop .item) (l .before .loop .inv .1) (sym (c .before .has-never .ensures) ∙ c .if1 .left),
+      below-more (λ a. neverIn (s .args .labels .now) a ≡ false) (l .before .loop .item) (l .before .loop .inv .1)
+          (sym (c .before .has-never .ensures) ∙ c .if1 .left),
     )
 
 returns-2 : tie.Need-returns-2 Inv-loop μ-loop

@@ -54,7 +54,8 @@ loop-again c =
     let l = c .before .before .before in
     let s = l .before .before .before in (
       omega (arith, l .loop-test .taken),
-      below-more (λ q. hasLabel (s .args .labels .now) (s .args .item) NEVER q ≡ false) (l .before .loop .p) (l .before .loop .inv .1) (ne-eqb _ _ (λ e. c .if1 .left (c .before .bit .ensures ∙ e))),
+      below-more (λ q. hasLabel (s .args .labels .now) (s .args .item) NEVER q ≡ false) (l .before .loop .p) (l .before .loop .inv .1)
+          (ne-eqb _ _ (λ e. c .if1 .left (c .before .bit .ensures ∙ e))),
     )
 
 returns-2 : tie.Need-returns-2 Inv-loop μ-loop

@@ -78,13 +78,17 @@ returns : tie.Need-returns
 returns c =
     let k = c .before .before .before .before .before in
     let s = k .before .before .before .before in
-    label-held (s .args .labels .now) (s .args .links .now) (s .args .atom) (s .args .p) _ _ _ _ _ (k .atom .given .1) (c .before .before .before .wide .ensures) (c .before .wide2 .ensures) (c .bit .ensures)
+    label-held (s .args .labels .now) (s .args .links .now) (s .args .atom) (s .args .p) _ _ _ _ _ (k .atom .given .1)
+    (c .before .before .before .wide .ensures) (c .before .wide2 .ensures) (c .bit .ensures)
 
 returns-2 : tie.Need-returns-2
 returns-2 c =
-    let k = c .before .before .before .before .before .before .before in
+    let wide3 = c .before .before .before .before .before in
+    let k = wide3 .before .before in
     let s = k .before .before .before .before in
-    link-held (s .args .labels .now) (s .args .links .now) (s .args .atom) (s .args .p) _ _ _ _ _ _ _ _ (k .atom2 .given .1) (c .before .before .before .before .before .wide3 .ensures) (c .before .before .before .before .wide4 .ensures) (c .before .wide5 .ensures) (c .before .before .wide-word .ensures) (c .bit2 .ensures)
+    link-held (s .args .labels .now) (s .args .links .now) (s .args .atom) (s .args .p) _ _ _ _ _ _ _ _ (k .atom2 .given .1)
+    (wide3 .wide3 .ensures) (c .before .before .before .before .wide4 .ensures) (c .before .wide5 .ensures)
+    (c .before .before .wide-word .ensures) (c .bit2 .ensures)
 
 pub holds-spec : {M : Type 1} → statement M
 holds-spec =
