@@ -2,15 +2,16 @@
 use Prim.Native.Nat.{_<_}
 use native.Mathlib.Omega.{arith}
 use borrow.Author.Needs.{needs}
+use Rattle.terms.specs.Limits.{ITEMS, KINDS, LABELS}
 use Rattle.verdicts.proofs.Reading.{names-of-label, names-of-link, label-held, link-held}
 use Rattle.verdicts.proofs.holds.Statement.{statement}
 use Rattle.verdicts.proofs.holds.Tie as tie
 
 -- the names in the arm of a label, and in that of a link
-label-known : (k : tie.After-atom) → (k .atom .given .0 .0 < 16) × (k .atom .given .0 .1 .0 < 64)
+label-known : (k : tie.After-atom) → (k .atom .given .0 .0 < ITEMS) × (k .atom .given .0 .1 .0 < LABELS)
 label-known k = names-of-label _ _ _ (k .atom .given .1) (k .before .before .before .before .pre .2)
 
-link-known : (k : tie.After-atom2) → (k .atom2 .given .0 .0 < 16) × (k .atom2 .given .0 .1 .0 < 8) × (k .atom2 .given .0 .1 .1 .0 < 16)
+link-known : (k : tie.After-atom2) → (k .atom2 .given .0 .0 < ITEMS) × (k .atom2 .given .0 .1 .0 < KINDS) × (k .atom2 .given .0 .1 .1 .0 < ITEMS)
 link-known k = names-of-link _ _ _ _ (k .atom2 .given .1) (k .before .before .before .before .pre .2)
 
 enum-known-atom : tie.Need-enum-known-atom
