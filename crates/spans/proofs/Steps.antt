@@ -23,7 +23,9 @@ two-set l k t b h = ap (λ j. set (set l k t) j b) (add-one k) ∙ sets-eq (t �
 
 none-laid : (l : List ℤ) (k : ℕ) → l ≡ laid l k []
 unfolding laid
-none-laid l k = let e : k + 0 ≡ k = omega arith in sym (ap (λ j. (take k l ++ []) ++ drop j l) e ∙ ap (λ x. x ++ drop k l) (append-nil (take k l)) ∙ take-append-drop k l)
+none-laid l k =
+    let e : k + 0 ≡ k = omega arith in
+    sym (ap (λ j. (take k l ++ []) ++ drop j l) e ∙ ap (λ x. x ++ drop k l) (append-nil (take k l)) ∙ take-append-drop k l)
 
 laid-behind : (xs vs lent : List ℤ) (k : ℕ) → length xs ≡ k → laid (xs ++ drop (length xs) lent) k vs ≡ (xs ++ vs) ++ drop (length (xs ++ vs)) lent
 unfolding laid
@@ -51,7 +53,8 @@ begun-earlier true s p e h = h
 begun-earlier false s p e h = absurd (true≢false (sym e))
 
 -- a span that ends has room for its pair
-pub pair-fits : (cs : List ℤ) (p : ℕ) (b h : Bool) (s k size : ℕ) → b ≡ true → h ≡ false → 2 * (k + length (endedAt cs p h (begunAt b s))) ≤ size → 2 * k + 2 ≤ size
+pub pair-fits : (cs : List ℤ) (p : ℕ) (b h : Bool) (s k size : ℕ) → b ≡ true → h ≡ false →
+    2 * (k + length (endedAt cs p h (begunAt b s))) ≤ size → 2 * k + 2 ≤ size
 pair-fits cs p true false s k size e f r = omega arith
 pair-fits cs p true true s k size e f r = absurd (true≢false f)
 pair-fits cs p false h s k size e f r = absurd (true≢false (sym e))
@@ -74,7 +77,13 @@ module _ (cs : List ℤ) (p : ℕ) (buffer : List ℤ) where
   unfolding flat
   ends true false s k t u after e f x y q =
       let d : p - 1 ≡ pred p = omega arith in
-      record { begun = refl; count = refl; buffer = q ∙ ap (λ z. laid buffer (2 * k) (z ∷ u ∷ [])) x ∙ ap (λ z. laid buffer (2 * k) (top-of cs s ∷ z ∷ [])) (y ∙ ap (bottom-of cs) d) }
+      record {
+        begun = refl;
+        count = refl;
+        buffer =
+            q ∙ ap (λ z. laid buffer (2 * k) (z ∷ u ∷ [])) x
+            ∙ ap (λ z. laid buffer (2 * k) (top-of cs s ∷ z ∷ [])) (y ∙ ap (bottom-of cs) d);
+      }
   ends true true s k t u after e f x y q = absurd (true≢false f)
   ends false h s k t u after e f x y q = absurd (true≢false (sym e))
 
@@ -92,12 +101,16 @@ module _ (cs : List ℤ) (has : ℕ → Bool) where
   one-more : (n p : ℕ) (g : Begun) → runsFrom cs has (suc n) p g ≡ endedAt cs p (has p) g ++ runsFrom cs has n (suc p) (begunAfter p (has p) g)
   one-more n p outside = go (has p)
     where
-      go : (t : Bool) → elim t [ true ↦ runsFrom cs has n (suc p) (since p) | false ↦ runsFrom cs has n (suc p) outside ] ≡ endedAt cs p t outside ++ runsFrom cs has n (suc p) (begunAfter p t outside)
+      go : (t : Bool) →
+          elim t [ true ↦ runsFrom cs has n (suc p) (since p) | false ↦ runsFrom cs has n (suc p) outside ]
+          ≡ endedAt cs p t outside ++ runsFrom cs has n (suc p) (begunAfter p t outside)
       go true = refl
       go false = refl
   one-more n p (since s) = go (has p)
     where
-      go : (t : Bool) → elim t [ true ↦ runsFrom cs has n (suc p) (since s) | false ↦ endedAt cs p false (since s) ++ runsFrom cs has n (suc p) outside ] ≡ endedAt cs p t (since s) ++ runsFrom cs has n (suc p) (begunAfter p t (since s))
+      go : (t : Bool) →
+          elim t [ true ↦ runsFrom cs has n (suc p) (since s) | false ↦ endedAt cs p false (since s) ++ runsFrom cs has n (suc p) outside ]
+          ≡ endedAt cs p t (since s) ++ runsFrom cs has n (suc p) (begunAfter p t (since s))
       go true = refl
       go false = refl
 
@@ -120,7 +133,9 @@ module _ (cs : List ℤ) (has : ℕ → Bool) where
     Parted h rest = runsFrom cs has (suc (length cs) - p) p (begunIn g) ≡ ended h ++ rest
 
     parted : p ≤ length cs → Parted (has p) (runsFrom cs has (suc (length cs) - suc p) (suc p) (begunAfter p (has p) (begunIn g)))
-    parted l = let e : suc (length cs) - p ≡ suc (suc (length cs) - suc p) = omega arith in ap (λ m. runsFrom cs has m p (begunIn g)) e ∙ one-more (suc (length cs) - suc p) p (begunIn g)
+    parted l =
+        let e : suc (length cs) - p ≡ suc (suc (length cs) - suc p) = omega arith in
+        ap (λ m. runsFrom cs has m p (begunIn g)) e ∙ one-more (suc (length cs) - suc p) p (begunIn g)
 
     last-parted : p ≡ suc (length cs) → Parted false []
     last-parted d = let e : suc (length cs) - p ≡ 0 = omega arith in ap (λ m. runsFrom cs has m p (begunIn g)) e ∙ last-one p (begunIn g)
@@ -131,7 +146,14 @@ module _ (cs : List ℤ) (has : ℕ → Bool) where
     module _ (few : length cs ≤ 192) (room : 194 ≤ length buffer) where
       fits : (h : Bool) (rest : List Run) → Parted h rest → 2 * (g .count + length (ended h)) ≤ length buffer
       fits h rest e =
-          omega (arith, runs-fit cs has few .0, ap length (all h rest e), length-append (w .done ++ ended h) rest, length-append (w .done) (ended h), w .written .count)
+          omega (
+            arith,
+            runs-fit cs has few .0,
+            ap length (all h rest e),
+            length-append (w .done ++ ended h) rest,
+            length-append (w .done) (ended h),
+            w .written .count,
+          )
 
       pub fits-next : p ≤ length cs → 2 * (g .count + length (ended (has p))) ≤ length buffer
       fits-next l = fits (has p) _ (parted l)

@@ -35,7 +35,9 @@ ordered-in (s ∷ rs) a r m = ⊎-elim (λ e. subst Ordered (sym e) (a .0)) (λ 
 
 -- the first run's top is the least
 tops : (s : Run) (ss : List Run) → Apart (s ∷ ss) → (t : Run) → t ∈ (s ∷ ss) → s .top ≤ℤ t .top
-tops s ss a t m = ⊎-elim (λ e. subst (λ w. s .top ≤ℤ w .top) (sym e) (≤-refl (s .top))) (λ n. omega (ints, suc-is (s .bottom), a .1 t n, a .0 .order)) (List·Memᴰ·cases-cons m)
+tops s ss a t m =
+    ⊎-elim (λ e. subst (λ w. s .top ≤ℤ w .top) (sym e) (≤-refl (s .top))) (λ n. omega (ints, suc-is (s .bottom), a .1 t n, a .0 .order))
+    (List·Memᴰ·cases-cons m)
 
 -- so what lies above it is not covered
 not-above : (s : Run) (ss : List Run) (i : ℤ) → Apart (s ∷ ss) → NO-TOP ≤ℤ i → i <ℤ s .top → Covered (s ∷ ss) i → ⊥
@@ -43,10 +45,13 @@ not-above s ss i a l h c = ⊎-elim (λ e. omega (ints, tops s ss a (c .0) (c .1
 
 -- a list that covers more begins no deeper
 top-le : (r s : Run) (rs ss : List Run) → Apart (r ∷ rs) → Apart (s ∷ ss) → ((i : ℤ) → Covered (r ∷ rs) i → Covered (s ∷ ss) i) → s .top ≤ℤ r .top
-top-le r s rs ss a b f = ⊎-elim (λ h. h) (λ h. absurd (not-above s ss (r .top) b (a .0 .low) h (f (r .top) (r, head, own r (a .0))))) (le-or-gt (s .top) (r .top))
+top-le r s rs ss a b f =
+    ⊎-elim (λ h. h) (λ h. absurd (not-above s ss (r .top) b (a .0 .low) h (f (r .top) (r, head, own r (a .0)))))
+    (le-or-gt (s .top) (r .top))
 
 -- where both begin at one depth, a first run that covers more ends no shallower
-bottom-le : (r s : Run) (rs ss : List Run) → Apart (r ∷ rs) → Apart (s ∷ ss) → r .top ≡ s .top → ((i : ℤ) → Covered (s ∷ ss) i → Covered (r ∷ rs) i) → s .bottom ≤ℤ r .bottom
+bottom-le : (r s : Run) (rs ss : List Run) → Apart (r ∷ rs) → Apart (s ∷ ss) → r .top ≡ s .top →
+    ((i : ℤ) → Covered (s ∷ ss) i → Covered (r ∷ rs) i) → s .bottom ≤ℤ r .bottom
 bottom-le r s rs ss a b e f = ⊎-elim (λ h. h) (λ h. absurd (bad h)) (le-or-gt (s .bottom) (r .bottom))
   where
     bad : r .bottom <ℤ s .bottom → ⊥
@@ -57,7 +62,9 @@ bottom-le r s rs ss a b e f = ⊎-elim (λ h. h) (λ h. absurd (bad h)) (le-or-g
         let v = a .0 .low in
         let c = f i (s, head, record { above = inr (omega (ints, suc-is (r .bottom))); below = inr (omega (ints, suc-is (r .bottom))) }) in
         ⊎-elim
-        (λ d. ⊎-elim (λ k. let q : r .bottom ≡ NO-BOTTOM = subst (λ w. w .bottom ≡ NO-BOTTOM) d k in omega ints) (λ k. let q : i ≤ℤ r .bottom = subst (λ w. i ≤ℤ w .bottom) d k in omega (ints, suc-is (r .bottom))) (c .2 .below))
+        (λ d.
+        ⊎-elim (λ k. let q : r .bottom ≡ NO-BOTTOM = subst (λ w. w .bottom ≡ NO-BOTTOM) d k in omega ints)
+        (λ k. let q : i ≤ℤ r .bottom = subst (λ w. i ≤ℤ w .bottom) d k in omega (ints, suc-is (r .bottom))) (c .2 .below))
         (λ n. let g = a .1 (c .0) n in ⊎-elim (λ k. omega (ints, suc-is (r .bottom))) (λ k. omega ints) (c .2 .above))
         (List·Memᴰ·cases-cons (c .1))
 
@@ -236,10 +243,15 @@ module _ (cs : List ℤ) (rising : Asc cs) (ranged : (x : ℤ) → x ∈ cs → 
         (λ r m. let e = next p (omega arith) in omega (ints, low r m)),
         apart,
       );
-      low = λ r m. ⊎-elim (λ d. subst (λ w. top-of cs a ≤ℤ w .top) (sym d) (≤-refl (top-of cs a))) (λ n. let e = next p (omega arith) in let o = block-order a (pred p) (omega arith) (omega arith) in omega (ints, low r n, suc-is (bottom-of cs (pred p)))) (List·Memᴰ·cases-cons m);
+      low = λ r m.
+          ⊎-elim (λ d. subst (λ w. top-of cs a ≤ℤ w .top) (sym d) (≤-refl (top-of cs a)))
+          (λ n. let e = next p (omega arith) in
+          let o = block-order a (pred p) (omega arith) (omega arith) in
+          omega (ints, low r n, suc-is (bottom-of cs (pred p)))) (List·Memᴰ·cases-cons m);
       exact = λ i. (
         λ c. ⊎-elim
-            (λ d. let w = block-covers a (pred p) i (omega arith) .0 (subst (λ r. Covers r i) d (c .2)) in (w .0, λ k. let z : ⊥ = omega (arith, w .1) in absurd z))
+            (λ d. let w = block-covers a (pred p) i (omega arith) .0 (subst (λ r. Covers r i) d (c .2)) in
+            (w .0, λ k. let z : ⊥ = omega (arith, w .1) in absurd z))
             (λ n. let w = exact i .0 (c .0, n, c .2) in (omega (arith, w .0), λ k. w .1))
             (List·Memᴰ·cases-cons (c .1)),
         λ w. go i w (decLt (upto cs i) p),

@@ -19,7 +19,10 @@ abbrev pub runsFrom : List ℤ → (ℕ → Bool) → ℕ → ℕ → Begun → 
 runsFrom cs has zero p outside = []
 runsFrom cs has zero p (since s) = run (top-of cs s) (bottom-of cs (pred p)) ∷ []
 runsFrom cs has (suc n) p outside = elim (has p) [ true ↦ runsFrom cs has n (suc p) (since p) | false ↦ runsFrom cs has n (suc p) outside ]
-runsFrom cs has (suc n) p (since s) = elim (has p) [ true ↦ runsFrom cs has n (suc p) (since s) | false ↦ run (top-of cs s) (bottom-of cs (pred p)) ∷ runsFrom cs has n (suc p) outside ]
+runsFrom cs has (suc n) p (since s) = elim (has p) [
+  | true ↦ runsFrom cs has n (suc p) (since s)
+  | false ↦ run (top-of cs s) (bottom-of cs (pred p)) ∷ runsFrom cs has n (suc p) outside
+]
 
 -- 01, Records: the longest runs, shallow to deep; neighbouring intervals that both have the label are one span
 unfoldable pub runs : List ℤ → (ℕ → Bool) → List Run

@@ -64,7 +64,8 @@ pub fn write_spans(
     n: usize,
 ) -> usize
     requires { ⌜ To-write (now spans) (now labels) item label (now cuts) n ⌝ }
-    ensures { λ r. ⌜ Spans-written (runs (take n (now (cuts .entry))) (hasLabel (now (labels .entry)) item label)) (now (spans .entry)) (now (spans .exit)) r ⌝ }
+    ensures { λ r. ⌜ Spans-written (runs (take n (now (cuts .entry))) (hasLabel (now (labels .entry)) item label)) (now (spans .entry))
+        (now (spans .exit)) r ⌝ }
 {
     let mut state = Progress {
         begun: false,

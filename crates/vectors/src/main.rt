@@ -150,7 +150,8 @@ fn call(
     spans: &mut [i32],
 ) -> Place
     requires { ⌜ (place .number ≤ place .at) × (place .at + 11 ≤ length (now script)) ⌝ }
-    requires { ⌜ (lengths .block ≤ length (now block)) × (lengths .labels ≤ length (now labels)) × (lengths .links ≤ length (now links)) × (lengths .spans ≤ length (now spans)) ⌝ }
+    requires { ⌜ (lengths .block ≤ length (now block)) × (lengths .labels ≤ length (now labels)) × (lengths .links ≤ length (now links))
+        × (lengths .spans ≤ length (now spans)) ⌝ }
     ensures { λ r. ⌜ (r .number ≤ r .at) × (place .at < r .at) × (r .at ≤ length (now (script .entry))) ⌝ }
 {
     let start = place.at + 11;
@@ -184,7 +185,8 @@ fn ask(
     spans: &mut [i32],
 ) -> Place
     requires { ⌜ (place .number ≤ place .at) × (place .at + 11 ≤ length (now script)) ⌝ }
-    requires { ⌜ (lengths .block ≤ length (now block)) × (lengths .labels ≤ length (now labels)) × (lengths .links ≤ length (now links)) × (lengths .spans ≤ length (now spans)) ⌝ }
+    requires { ⌜ (lengths .block ≤ length (now block)) × (lengths .labels ≤ length (now labels)) × (lengths .links ≤ length (now links))
+        × (lengths .spans ≤ length (now spans)) ⌝ }
     ensures { λ r. ⌜ (r .number ≤ r .at) × (place .at < r .at) × (r .at ≤ length (now (script .entry))) ⌝ }
 {
     let end = place.at + 11;

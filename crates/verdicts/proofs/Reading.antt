@@ -11,12 +11,13 @@ use lib.ListN.{getD}
 use Rattle.terms.specs.declared.Atom.{Atom}
 use Rattle.terms.specs.declared.Atom.the-variants.{Has, Linked}
 use Rattle.terms.specs.Tests.{or-left, or-right, of-true, true-of}
-use Rattle.terms.specs.Limits.{ITEMS, NEVER}
+use Rattle.terms.specs.Limits.{ITEMS, INTERVALS, KINDS, LABELS, NEVER}
 use Rattle.terms.specs.Names.{label-names, link-names}
 use Rattle.terms.specs.Held.{isStatement}
 use Rattle.words.specs.Bit.{bitAt}
 use Rattle.spans.specs.Runs.{hasLabel}
-use Rattle.verdicts.specs.Reading.{anyBelow, absent, first, lowestOf, neverIn, itemOr16, clashItem, holdsIn}
+use Rattle.verdicts.specs.declared.Clash.the-variants.{Nowhere, Item}
+use Rattle.verdicts.specs.Reading.{anyBelow, absent, first, lowestOf, neverIn, clashOf, clashIn, holdsIn}
 
 -- ---- NEVER in the entries of an item
 
@@ -30,11 +31,11 @@ none-below : (n : ℕ) (f : ℕ → Bool) → ((q : ℕ) → q < n → f q ≡ f
 none-below zero f h = refl
 none-below (suc n) f h = rw (h n (omega arith)) (none-below n f (λ q l. h q (omega arith)))
 
-pub never-found : (labels : List ℕ) (item p : ℕ) → p < 193 → hasLabel labels item NEVER p ≡ true → true ≡ neverIn labels item
-never-found labels item p l e = sym (true-of (neverIn labels item) (one-below 193 (hasLabel labels item NEVER) p l (of-true e)))
+pub never-found : (labels : List ℕ) (item p : ℕ) → p < INTERVALS → hasLabel labels item NEVER p ≡ true → true ≡ neverIn labels item
+never-found labels item p l e = sym (true-of (neverIn labels item) (one-below INTERVALS (hasLabel labels item NEVER) p l (of-true e)))
 
-pub never-absent : (labels : List ℕ) (item : ℕ) → ((q : ℕ) → q < 193 → hasLabel labels item NEVER q ≡ false) → false ≡ neverIn labels item
-never-absent labels item h = sym (none-below 193 (hasLabel labels item NEVER) h)
+pub never-absent : (labels : List ℕ) (item : ℕ) → ((q : ℕ) → q < INTERVALS → hasLabel labels item NEVER q ≡ false) → false ≡ neverIn labels item
+never-absent labels item h = sym (none-below INTERVALS (hasLabel labels item NEVER) h)
 
 -- ---- the lowest item
 
@@ -47,27 +48,29 @@ lowest-absent : (f : ℕ → Bool) (n a : ℕ) → ((q : ℕ) → q < a + n → 
 lowest-absent f zero a h = refl
 lowest-absent f (suc n) a h = rw (h a (omega arith), lowestOf) (lowest-absent f n (suc a) (λ q l. h q (omega arith)))
 
-pub clash-found : (labels : List ℕ) (item : ℕ) → item < 16 → ((a : ℕ) → a < item → neverIn labels a ≡ false) → neverIn labels item ≡ true → item ≡ clashItem labels
-unfolding clashItem
-clash-found labels item l h t = sym (ap itemOr16 (lowest-first (neverIn labels) ITEMS 0 item item (omega arith) l h t))
+pub clash-found : (labels : List ℕ) (item : ℕ) → item < ITEMS → ((a : ℕ) → a < item → neverIn labels a ≡ false) → neverIn labels item ≡ true →
+    Item item ≡ clashIn labels
+unfolding clashIn
+clash-found labels item l h t = sym (ap clashOf (lowest-first (neverIn labels) ITEMS 0 item item (omega arith) l h t))
 
-pub clash-absent : (labels : List ℕ) → ((a : ℕ) → a < 16 → neverIn labels a ≡ false) → 16 ≡ clashItem labels
-unfolding clashItem
-clash-absent labels h = sym (ap itemOr16 (lowest-absent (neverIn labels) ITEMS 0 (λ q l. h q (omega arith))))
+pub clash-absent : (labels : List ℕ) → ((a : ℕ) → a < ITEMS → neverIn labels a ≡ false) → Nowhere ≡ clashIn labels
+unfolding clashIn
+clash-absent labels h = sym (ap clashOf (lowest-absent (neverIn labels) ITEMS 0 (λ q l. h q (omega arith))))
 
 -- ---- a statement
 
 -- the names in it, as numbers
-pub names-of-label : (x : Atom) (a A : ℕ) → x ≡ Has a A → T (isStatement x) → (a < 16) × (A < 64)
+pub names-of-label : (x : Atom) (a A : ℕ) → x ≡ Has a A → T (isStatement x) → (a < ITEMS) × (A < LABELS)
 names-of-label x a A e t = label-names a A (subst (λ y. T (isStatement y)) e t)
 
-pub names-of-link : (x : Atom) (a r b : ℕ) → x ≡ Linked a r b → T (isStatement x) → (a < 16) × (r < 8) × (b < 16)
+pub names-of-link : (x : Atom) (a r b : ℕ) → x ≡ Linked a r b → T (isStatement x) → (a < ITEMS) × (r < KINDS) × (b < ITEMS)
 names-of-link x a r b e t = link-names a r b (subst (λ y. T (isStatement y)) e t)
 
 -- its bit, found under the names as the code has them
 module _ (labels links : List ℕ) (x : Atom) (p : ℕ) where
-  pub label-held : (a A i k s : ℕ) → x ≡ Has a A → i ≡ a → k ≡ A → s ≡ bitAt (getD labels (i * 193 + p) 0) k → eqb s 1 ≡ holdsIn labels links x p
+  pub label-held : (a A i k s : ℕ) → x ≡ Has a A → i ≡ a → k ≡ A → s ≡ bitAt (getD labels (i * INTERVALS + p) 0) k → eqb s 1 ≡ holdsIn labels links x p
   label-held a A i k s e f g h = rw (e, h, f, g)
 
-  pub link-held : (a r b i j k w s : ℕ) → x ≡ Linked a r b → i ≡ a → j ≡ b → k ≡ r → w ≡ getD links ((i * 16 + j) * 193 + p) 0 → s ≡ bitAt w k → eqb s 1 ≡ holdsIn labels links x p
+  pub link-held : (a r b i j k w s : ℕ) → x ≡ Linked a r b → i ≡ a → j ≡ b → k ≡ r → w ≡ getD links ((i * ITEMS + j) * INTERVALS + p) 0 →
+      s ≡ bitAt w k → eqb s 1 ≡ holdsIn labels links x p
   link-held a r b i j k w s e f g d v h = rw (e, h, v, f, g, d)

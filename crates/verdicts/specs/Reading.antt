@@ -6,9 +6,11 @@ use lib.Dec.{eqb}
 use lib.ListN.{getD}
 use Rattle.terms.specs.declared.Atom.{Atom}
 use Rattle.terms.specs.declared.Atom.the-variants.{Has, Linked}
-use Rattle.terms.specs.Limits.{ITEMS, NEVER}
+use Rattle.terms.specs.Limits.{ITEMS, INTERVALS, NEVER}
 use Rattle.words.specs.Bit.{bitAt}
 use Rattle.spans.specs.Runs.{hasLabel}
+use Rattle.verdicts.specs.declared.Clash.{Clash}
+use Rattle.verdicts.specs.declared.Clash.the-variants.{Nowhere, Item}
 
 -- one of the numbers below n passes
 abbrev pub anyBelow : ℕ → (ℕ → Bool) → Bool
@@ -26,18 +28,18 @@ lowestOf f (suc n) a = elim (f a) [ true ↦ first a | false ↦ lowestOf f n (s
 
 -- the item has NEVER in some entry of the label table
 abbrev pub neverIn : List ℕ → ℕ → Bool
-neverIn labels a = anyBelow 193 (hasLabel labels a NEVER)
+neverIn labels a = anyBelow INTERVALS (hasLabel labels a NEVER)
 
--- the number found; 16 for none
-abbrev pub itemOr16 : Lookup → ℕ
-itemOr16 absent = 16
-itemOr16 (first a) = a
+-- what was found, as the code says it
+abbrev pub clashOf : Lookup → Clash
+clashOf absent = Nowhere
+clashOf (first a) = Item a
 
 -- 01, Records: the lowest item that has NEVER
-unfoldable pub clashItem : List ℕ → ℕ
-clashItem labels = itemOr16 (lowestOf (neverIn labels) ITEMS 0)
+unfoldable pub clashIn : List ℕ → Clash
+clashIn labels = clashOf (lowestOf (neverIn labels) ITEMS 0)
 
 -- the statement's bit at an interval
 abbrev pub holdsIn : List ℕ → List ℕ → Atom → ℕ → Bool
 holdsIn labels links (Has a A) p = hasLabel labels a A p
-holdsIn labels links (Linked a r b) p = eqb (bitAt (getD links ((a * 16 + b) * 193 + p) 0) r) 1
+holdsIn labels links (Linked a r b) p = eqb (bitAt (getD links ((a * ITEMS + b) * INTERVALS + p) 0) r) 1

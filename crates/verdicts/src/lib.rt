@@ -4,9 +4,16 @@ ghost use Prim.Native.Nat.{_<_, _≤_};
 ghost use lib.Dec.{T};
 ghost use lib.ListN.{length};
 ghost use Rattle.terms.specs.Held.{isStatement};
-ghost use Rattle.verdicts.specs.Reading.{neverIn, clashItem, holdsIn};
+ghost use Rattle.terms.specs.Limits.{ITEMS, INTERVALS, LABEL-ENTRIES, LINK-ENTRIES};
+ghost use Rattle.verdicts.specs.Reading.{neverIn, clashIn, holdsIn};
 use terms::Atom;
+use terms::INTERVALS;
 use terms::wide;
+
+// How many items there are, and the bit of NEVER, as places.
+const ITEM_PLACES: usize = terms::ITEMS as usize;
+
+const NEVER_BIT: usize = terms::NEVER as usize;
 
 fn wide_word(x: u8) -> u64
     ensures { λ r. ⌜ r ≡ x ⌝ }
@@ -16,13 +23,13 @@ fn wide_word(x: u8) -> u64
 
 // Whether the item has NEVER somewhere.
 fn has_never(labels: &[u64], item: usize) -> bool
-    requires { ⌜ (3088 ≤ length (now labels)) × (item < 16) ⌝ }
+    requires { ⌜ (LABEL-ENTRIES ≤ length (now labels)) × (item < ITEMS) ⌝ }
     ensures { λ r. ⌜ r ≡ neverIn (now (labels .entry)) item ⌝ }
 {
-    let base = item * 193;
+    let base = item * INTERVALS;
     let mut p = 0;
-    while p < 193 {
-        if words::bit(labels[base + p], 63) == 1 {
+    while p < INTERVALS {
+        if words::bit(labels[base + p], NEVER_BIT) == 1 {
             return true;
         }
         p += 1;
@@ -30,30 +37,36 @@ fn has_never(labels: &[u64], item: usize) -> bool
     false
 }
 
-// The lowest item with NEVER, 16 where there is none.
-pub fn clash_item(labels: &[u64]) -> usize
-    requires { ⌜ 3088 ≤ length (now labels) ⌝ }
-    ensures { λ r. ⌜ r ≡ clashItem (now (labels .entry)) ⌝ }
+// What the tables clash at: the lowest item with NEVER.
+pub enum Clash {
+    Nowhere,
+    Item(u8),
+}
+
+pub fn clash_in(labels: &[u64]) -> Clash
+    requires { ⌜ LABEL-ENTRIES ≤ length (now labels) ⌝ }
+    ensures { λ r. ⌜ r ≡ clashIn (now (labels .entry)) ⌝ }
 {
     let mut item = 0;
-    while item < 16 {
+    while item < ITEM_PLACES {
         if has_never(labels, item) {
-            return item;
+            let found = item as u8;
+            return Clash::Item(found);
         }
         item += 1;
     }
-    16
+    Clash::Nowhere
 }
 
 // Whether the tables have the statement at the interval.
 pub fn holds(labels: &[u64], links: &[u8], atom: Atom, p: usize) -> bool
-    requires { ⌜ (3088 ≤ length (now labels)) × (49408 ≤ length (now links)) × T (isStatement atom) × (p < 193) ⌝ }
+    requires { ⌜ (LABEL-ENTRIES ≤ length (now labels)) × (LINK-ENTRIES ≤ length (now links)) × T (isStatement atom) × (p < INTERVALS) ⌝ }
     ensures { λ r. ⌜ r ≡ holdsIn (now (labels .entry)) (now (links .entry)) atom p ⌝ }
 {
     match atom {
-        Atom::Has(item, label) => words::bit(labels[wide(item) * 193 + p], wide(label)) == 1,
+        Atom::Has(item, label) => words::bit(labels[wide(item) * INTERVALS + p], wide(label)) == 1,
         Atom::Linked(from, kind, to) => {
-            let at = (wide(from) * 16 + wide(to)) * 193 + p;
+            let at = (wide(from) * ITEM_PLACES + wide(to)) * INTERVALS + p;
             words::bit(wide_word(links[at]), wide(kind)) == 1
         }
     }

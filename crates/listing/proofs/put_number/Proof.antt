@@ -15,13 +15,28 @@ slice-aggregate-put-text : tie.Need-slice-aggregate-put-text
 slice-aggregate-put-text c = search needs
 
 put-text-requires : tie.Need-put-text-requires
-put-text-requires c κs = omega (arith, c .before .before .decimal .ensures .0 .1, at-most-20 (c .before .before .before .before .before .args .n) (c .before .before .decimal .result) (search needs) (c .before .before .decimal .ensures .1 .0))
+put-text-requires c κs =
+    let start = c .before .before .before .before .before in
+    omega (
+      arith,
+      c .before .before .decimal .ensures .0 .1,
+      at-most-20 (start .args .n) (c .before .before .decimal .result) (search needs) (c .before .before .decimal .ensures .1 .0),
+    )
 
 same-length : tie.Need-same-length
 same-length c = search needs
 
 returns : tie.Need-returns
-returns c = (omega (arith, c .before .before .before .before .before .decimal .ensures .0 .1, at-most-20 (c .before .before .before .before .before .before .before .before .args .n) (c .before .before .before .before .before .decimal .result) (search needs) (c .before .before .before .before .before .decimal .ensures .1 .0)), search needs)
+returns c =
+    let decimal = c .before .before .before .before .before in (
+      omega (
+        arith,
+        decimal .decimal .ensures .0 .1,
+        at-most-20 (decimal .before .before .before .args .n) (decimal .decimal .result) (search needs)
+            (decimal .decimal .ensures .1 .0),
+      ),
+      search needs,
+    )
 
 pub put-number-spec : {M : Type 1} → statement M
 put-number-spec =

@@ -58,7 +58,10 @@ returns-3 c =
     let t = b .before in
     let e = t .before in
     ends _ _ _ _ _ _ _ _ _ _ (has-begun e) (no-label e) (t .top-of .ensures) (b .bottom-of .ensures)
-    (rw (toZ-ofZ {w = w32} {z = t .top-of .result} (record { sfits = t .top-of .ok }), toZ-ofZ {w = w32} {z = b .bottom-of .result} (record { sfits = b .bottom-of .ok })) at (w .put-pair .ensures))
+    (rw (
+      toZ-ofZ {w = w32} {z = t .top-of .result} (record { sfits = t .top-of .ok }),
+      toZ-ofZ {w = w32} {z = b .bottom-of .result} (record { sfits = b .bottom-of .ok }),
+    ) at (w .put-pair .ensures))
 
 pub step-spec : {M : Type 1} → statement M
 step-spec =

@@ -68,7 +68,10 @@ bit-requires c κs = start (c .before .before) .pre .label
 step-requires : tie.Need-step-requires Inv-loop μ-loop
 step-requires c κs =
     let l = c .before .before .before in
-    rw (c .before .bit .ensures) (to-step (l .before) _ (fits-next _ _ _ _ _ _ (l .before .loop .inv .2) (few (l .before)) (room (l .before)) (omega (arith, used (l .before), l .loop-test .taken))))
+    rw (c .before .bit .ensures)
+    (to-step (l .before) _
+    (fits-next _ _ _ _ _ _ (l .before .loop .inv .2) (few (l .before)) (room (l .before))
+    (omega (arith, used (l .before), l .loop-test .taken))))
 
 add-p : tie.Need-add-p Inv-loop μ-loop
 add-p c = omega (arith, start (c .before .before .before .before .before .before) .pre .cuts .few)
@@ -82,7 +85,9 @@ loop-again c =
     let h = l .before in (
       omega (arith, l .loop-test .taken),
       c .before .step .kept .0 ∙ h .loop .inv .1,
-      rw (add-one (h .loop .p)) (written-next _ _ _ _ _ _ (h .loop .inv .2) _ _ (omega (arith, used h, l .loop-test .taken)) (rw (c .before .before .before .bit .ensures) at (c .before .step .ensures))),
+      rw (add-one (h .loop .p))
+          (written-next _ _ _ _ _ _ (h .loop .inv .2) _ _ (omega (arith, used h, l .loop-test .taken))
+          (rw (c .before .before .before .bit .ensures) at (c .before .step .ensures))),
     )
 
 -- all intervals are passed

@@ -5,17 +5,17 @@ use Prim.Native.Nat.{ℕ, _-_, _≤_, _<_}
 use native.Mathlib.Omega.{arith}
 use borrow.Author.Count.{below-none, below-more}
 use borrow.Author.Tests.{eq-eqb, ne-eqb}
-use Rattle.terms.specs.Limits.{NEVER}
+use Rattle.terms.specs.Limits.{INTERVALS, NEVER}
 use Rattle.spans.specs.Runs.{hasLabel}
 use Rattle.verdicts.proofs.Reading.{never-found, never-absent}
 use Rattle.verdicts.proofs.has_never.Statement.{statement}
 use Rattle.verdicts.proofs.has_never.Tie as tie
 
 abbrev Inv-loop : tie.InvT-loop
-Inv-loop labels item base p₀ p = (p ≤ 193) × ((q : ℕ) → q < p → hasLabel labels item NEVER q ≡ false)
+Inv-loop labels item base p₀ p = (p ≤ INTERVALS) × ((q : ℕ) → q < p → hasLabel labels item NEVER q ≡ false)
 
 abbrev μ-loop : tie.MeasureT-loop
-μ-loop labels item base p₀ p = 193 - p
+μ-loop labels item base p₀ p = INTERVALS - p
 
 mul-base : tie.Need-mul-base Inv-loop μ-loop
 mul-base c = omega (arith, c .before .pre .1)
@@ -54,7 +54,8 @@ loop-again c =
     let l = c .before .before .before in
     let s = l .before .before .before in (
       omega (arith, l .loop-test .taken),
-      below-more (λ q. hasLabel (s .args .labels .now) (s .args .item) NEVER q ≡ false) (l .before .loop .p) (l .before .loop .inv .1) (ne-eqb _ _ (λ e. c .if1 .left (c .before .bit .ensures ∙ e))),
+      below-more (λ q. hasLabel (s .args .labels .now) (s .args .item) NEVER q ≡ false) (l .before .loop .p) (l .before .loop .inv .1)
+          (ne-eqb _ _ (λ e. c .if1 .left (c .before .bit .ensures ∙ e))),
     )
 
 returns-2 : tie.Need-returns-2 Inv-loop μ-loop

@@ -2,15 +2,16 @@
 use Prim.Native.Nat.{_<_}
 use native.Mathlib.Omega.{arith}
 use borrow.Author.Needs.{needs}
+use Rattle.terms.specs.Limits.{ITEMS, KINDS, LABELS}
 use Rattle.verdicts.proofs.Reading.{names-of-label, names-of-link, label-held, link-held}
 use Rattle.verdicts.proofs.holds.Statement.{statement}
 use Rattle.verdicts.proofs.holds.Tie as tie
 
 -- the names in the arm of a label, and in that of a link
-label-known : (k : tie.After-atom) → (k .atom .given .0 .0 < 16) × (k .atom .given .0 .1 .0 < 64)
+label-known : (k : tie.After-atom) → (k .atom .given .0 .0 < ITEMS) × (k .atom .given .0 .1 .0 < LABELS)
 label-known k = names-of-label _ _ _ (k .atom .given .1) (k .before .before .before .before .pre .2)
 
-link-known : (k : tie.After-atom2) → (k .atom2 .given .0 .0 < 16) × (k .atom2 .given .0 .1 .0 < 8) × (k .atom2 .given .0 .1 .1 .0 < 16)
+link-known : (k : tie.After-atom2) → (k .atom2 .given .0 .0 < ITEMS) × (k .atom2 .given .0 .1 .0 < KINDS) × (k .atom2 .given .0 .1 .1 .0 < ITEMS)
 link-known k = names-of-link _ _ _ _ (k .atom2 .given .1) (k .before .before .before .before .pre .2)
 
 enum-known-atom : tie.Need-enum-known-atom
@@ -78,13 +79,17 @@ returns : tie.Need-returns
 returns c =
     let k = c .before .before .before .before .before in
     let s = k .before .before .before .before in
-    label-held (s .args .labels .now) (s .args .links .now) (s .args .atom) (s .args .p) _ _ _ _ _ (k .atom .given .1) (c .before .before .before .wide .ensures) (c .before .wide2 .ensures) (c .bit .ensures)
+    label-held (s .args .labels .now) (s .args .links .now) (s .args .atom) (s .args .p) _ _ _ _ _ (k .atom .given .1)
+    (c .before .before .before .wide .ensures) (c .before .wide2 .ensures) (c .bit .ensures)
 
 returns-2 : tie.Need-returns-2
 returns-2 c =
-    let k = c .before .before .before .before .before .before .before in
+    let wide3 = c .before .before .before .before .before in
+    let k = wide3 .before .before in
     let s = k .before .before .before .before in
-    link-held (s .args .labels .now) (s .args .links .now) (s .args .atom) (s .args .p) _ _ _ _ _ _ _ _ (k .atom2 .given .1) (c .before .before .before .before .before .wide3 .ensures) (c .before .before .before .before .wide4 .ensures) (c .before .wide5 .ensures) (c .before .before .wide-word .ensures) (c .bit2 .ensures)
+    link-held (s .args .labels .now) (s .args .links .now) (s .args .atom) (s .args .p) _ _ _ _ _ _ _ _ (k .atom2 .given .1)
+    (wide3 .wide3 .ensures) (c .before .before .before .before .wide4 .ensures) (c .before .wide5 .ensures)
+    (c .before .before .wide-word .ensures) (c .bit2 .ensures)
 
 pub holds-spec : {M : Type 1} → statement M
 holds-spec =

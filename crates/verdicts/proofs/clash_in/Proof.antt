@@ -4,16 +4,17 @@ use mathlib.Core.Bool.{false}
 use Prim.Native.Nat.{ℕ, _-_, _≤_, _<_}
 use native.Mathlib.Omega.{arith}
 use borrow.Author.Count.{below-none, below-more}
+use Rattle.terms.specs.Limits.{ITEMS}
 use Rattle.verdicts.specs.Reading.{neverIn}
 use Rattle.verdicts.proofs.Reading.{clash-found, clash-absent}
-use Rattle.verdicts.proofs.clash_item.Statement.{statement}
-use Rattle.verdicts.proofs.clash_item.Tie as tie
+use Rattle.verdicts.proofs.clash_in.Statement.{statement}
+use Rattle.verdicts.proofs.clash_in.Tie as tie
 
 abbrev Inv-loop : tie.InvT-loop
-Inv-loop labels item₀ item = (item ≤ 16) × ((a : ℕ) → a < item → neverIn labels a ≡ false)
+Inv-loop labels item₀ item = (item ≤ ITEMS) × ((a : ℕ) → a < item → neverIn labels a ≡ false)
 
 abbrev μ-loop : tie.MeasureT-loop
-μ-loop labels item₀ item = 16 - item
+μ-loop labels item₀ item = ITEMS - item
 
 loop-holds : tie.Need-loop-holds Inv-loop μ-loop
 loop-holds c = (omega arith, below-none _)
@@ -25,7 +26,11 @@ returns : tie.Need-returns Inv-loop μ-loop
 returns c =
     let l = c .before .before in
     let s = l .before .before .before in
-    clash-found (s .args .labels .now) (l .before .loop .item) (l .loop-test .taken) (l .before .loop .inv .1) (sym (c .before .has-never .ensures) ∙ c .if1 .taken)
+    clash-found (s .args .labels .now) (l .before .loop .item) (l .loop-test .taken) (l .before .loop .inv .1)
+    (sym (c .before .has-never .ensures) ∙ c .if1 .taken)
+
+cast-found : tie.Need-cast-found Inv-loop μ-loop
+cast-found c = omega (arith, c .before .before .loop-test .taken)
 
 add-item : tie.Need-add-item Inv-loop μ-loop
 add-item c = omega (arith, c .before .before .loop-test .taken)
@@ -38,7 +43,8 @@ loop-again c =
     let l = c .before .before in
     let s = l .before .before .before in (
       omega (arith, l .loop-test .taken),
-      below-more (λ a. neverIn (s .args .labels .now) a ≡ false) (l .before .loop .item) (l .before .loop .inv .1) (sym (c .before .has-never .ensures) ∙ c .if1 .left),
+      below-more (λ a. neverIn (s .args .labels .now) a ≡ false) (l .before .loop .item) (l .before .loop .inv .1)
+          (sym (c .before .has-never .ensures) ∙ c .if1 .left),
     )
 
 returns-2 : tie.Need-returns-2 Inv-loop μ-loop
@@ -46,14 +52,15 @@ returns-2 c =
     let s = c .before .before .before in
     clash-absent (s .args .labels .now) (λ a l. c .before .loop .inv .1 a (omega (arith, c .loop-test .left)))
 
-pub clash-item-spec : {M : Type 1} → statement M
-clash-item-spec =
+pub clash-in-spec : {M : Type 1} → statement M
+clash-in-spec =
     tie.close
     (tie.spec
     Inv-loop
     μ-loop
     loop-holds
     has-never-requires
+    cast-found
     returns
     add-item
     loop-less
