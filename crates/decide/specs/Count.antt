@@ -15,7 +15,7 @@ use Rattle.terms.specs.Same.{sameDepth, same-depth, depth-same}
 use Rattle.terms.specs.Lists.{some, depthCount}
 use Rattle.line.specs.Cuts.{Asc, insert, insert-has, insert-keeps, insert-asc, insert-again, Inserted, was-there, one-more, inserted, depthsOf, depths-only, cuts-few}
 use Rattle.line.specs.Intervals.{cutsOf}
-use Rattle.decide.specs.Within.{some-in, in-some, Within}
+use Rattle.terms.specs.Limited.{some-in, in-some, Limited}
 
 -- ---- the number of marked depths
 
@@ -63,5 +63,5 @@ depth-count (m ∷ ms) = go (some (marksAt (m .depth)) ms) (λ t. some-depth (m 
         fresh (one-more d) = omega (arith, d, e)
 
 -- 01, Pieces of the line: 193 intervals at most
-pub few-cuts : (h : Held) → Within h → length (cutsOf h) ≤ 192
+pub few-cuts : (h : Held) → Limited h → length (cutsOf h) ≤ 192
 few-cuts h w = omega (arith, cuts-few (h .marks), depth-count (h .marks), w .few-depths)

@@ -1,7 +1,7 @@
 -- What marks and rules decide, by the interpretations that satisfy them; at most one reply; and the reply, computed. Assumes nothing.
 use mathlib.Core.Path.{_≡_, refl, sym, ap, _∙_, subst}
 use mathlib.Core.Logic.{_⊎_, inl, inr, _↔_}
-use mathlib.Core.Bool.{Bool, true, false, cond, _||_, true≢false}
+use mathlib.Core.Bool.{Bool, true, false, cond, true≢false}
 use mathlib.Core.List.{List}
 use Prim.Native.Nat.{ℕ, zero, suc, _≤_, _<_, _+_}
 use native.Mathlib.Omega.{arith}
@@ -11,8 +11,10 @@ use lib.IntN.{ℤ}
 use lib.Signed.{_≤ℤ_, _<ℤ_}
 use Rattle.terms.specs.declared.Atom.{Atom}
 use Rattle.terms.specs.declared.Atom.the-variants.{Has}
+use Rattle.terms.specs.declared.Question.{Question}
+use Rattle.terms.specs.declared.Question.the-variants as Question
 use Rattle.terms.specs.Order.{ints}
-use Rattle.terms.specs.Tests.{and-both, or-one, true-of, of-true, false-of}
+use Rattle.terms.specs.Tests.{and-both, or-one, true-of, of-true, false-of, neither}
 use Rattle.terms.specs.Limits.{ITEMS, NEVER, NO-TOP, NO-BOTTOM, isDepth}
 use Rattle.terms.specs.Held.{_∈_, Held, InRange, isMarkable}
 use Rattle.terms.specs.Model.{by-mark, by-every, by-rule}
@@ -27,10 +29,6 @@ use Rattle.spans.specs.Longest.{longest-one, runs-longest}
 use Rattle.verdicts.specs.Reading.{anyBelow, Lookup, absent, first, lowestOf}
 use Rattle.tables.specs.Saturate.{Fact, fact, mem}
 use Rattle.tables.specs.Executed.{model, exact, exact-at}
-
-pub data Question : Type 0 where
-  Ask : Atom → ℤ → Question
-  SpansOf : ℕ → ℕ → Question
 
 pub data Verdict : Type 0 where
   Yes No : Verdict
@@ -54,12 +52,12 @@ abbrev pub InAll : Held → Atom → ℤ → Type 0
 InAll h x i = (D : Interpretation) → Satisfies h D → D x i ≡ true
 
 abbrev pub Says : Held → Question → Verdict → Type 0
-Says h (Ask x i) Yes = InAll h x i
-Says h (Ask x i) No = (D : Interpretation) × Satisfies h D × (D x i ≡ false)
-Says h (Ask x i) (Spans rs) = ⊥
-Says h (SpansOf a A) Yes = ⊥
-Says h (SpansOf a A) No = ⊥
-Says h (SpansOf a A) (Spans rs) = Longest (λ i. InAll h (Has a A) i) rs
+Says h (Question.Holds x i) Yes = InAll h x i
+Says h (Question.Holds x i) No = (D : Interpretation) × Satisfies h D × (D x i ≡ false)
+Says h (Question.Holds x i) (Spans rs) = ⊥
+Says h (Question.Spans a A) Yes = ⊥
+Says h (Question.Spans a A) No = ⊥
+Says h (Question.Spans a A) (Spans rs) = Longest (λ i. InAll h (Has a A) i) rs
 
 -- demand 3
 abbrev pub Decides : Held → Question → Reply → Type 0
@@ -80,18 +78,18 @@ lowest-one h a b s t = go (decLt a b) (decLt b a)
     go (no k) (no l) = omega arith
 
 says-one : (h : Held) (q : Question) (v w : Verdict) → Says h q v → Says h q w → v ≡ w
-says-one h (Ask x i) Yes Yes d e = refl
-says-one h (Ask x i) Yes No d e = absurd (clash (d (e .0) (e .1)) (e .2))
-says-one h (Ask x i) No Yes d e = absurd (clash (e (d .0) (d .1)) (d .2))
-says-one h (Ask x i) No No d e = refl
-says-one h (Ask x i) Yes (Spans rs) d e = absurd e
-says-one h (Ask x i) No (Spans rs) d e = absurd e
-says-one h (Ask x i) (Spans rs) w d e = absurd d
-says-one h (SpansOf a A) Yes w d e = absurd d
-says-one h (SpansOf a A) No w d e = absurd d
-says-one h (SpansOf a A) (Spans rs) Yes d e = absurd e
-says-one h (SpansOf a A) (Spans rs) No d e = absurd e
-says-one h (SpansOf a A) (Spans rs) (Spans ss) d e = ap Spans (longest-one (λ i. InAll h (Has a A) i) rs ss d e)
+says-one h (Question.Holds x i) Yes Yes d e = refl
+says-one h (Question.Holds x i) Yes No d e = absurd (clash (d (e .0) (e .1)) (e .2))
+says-one h (Question.Holds x i) No Yes d e = absurd (clash (e (d .0) (d .1)) (d .2))
+says-one h (Question.Holds x i) No No d e = refl
+says-one h (Question.Holds x i) Yes (Spans rs) d e = absurd e
+says-one h (Question.Holds x i) No (Spans rs) d e = absurd e
+says-one h (Question.Holds x i) (Spans rs) w d e = absurd d
+says-one h (Question.Spans a A) Yes w d e = absurd d
+says-one h (Question.Spans a A) No w d e = absurd d
+says-one h (Question.Spans a A) (Spans rs) Yes d e = absurd e
+says-one h (Question.Spans a A) (Spans rs) No d e = absurd e
+says-one h (Question.Spans a A) (Spans rs) (Spans ss) d e = ap Spans (longest-one (λ i. InAll h (Has a A) i) rs ss d e)
 
 pub at-most-one : (h : Held) (q : Question) (r s : Reply) → Decides h q r → Decides h q s → r ≡ s
 at-most-one h q (Contradiction a) (Contradiction b) d e = ap Contradiction (lowest-one h a b (d .1) (e .1))
@@ -110,8 +108,8 @@ clashOr absent v = Answered v
 clashOr (first a) v = Contradiction a
 
 abbrev pub verdict : Held → List Fact → Question → Verdict
-verdict h fs (Ask x i) = cond (mem (fact x (interval h i)) fs) Yes No
-verdict h fs (SpansOf a A) = Spans (runs (cutsOf h) (λ p. mem (fact (Has a A) p) fs))
+verdict h fs (Question.Holds x i) = cond (mem (fact x (interval h i)) fs) Yes No
+verdict h fs (Question.Spans a A) = Spans (runs (cutsOf h) (λ p. mem (fact (Has a A) p) fs))
 
 unfoldable pub answer : Held → Question → Reply
 answer h q = let fs = model h in let v = verdict h fs q in clashOr (lowestOf (clashes h fs) ITEMS 0) v
@@ -143,25 +141,17 @@ any-yes : (n : ℕ) (f : ℕ → Bool) → anyBelow n f ≡ true → (p : ℕ) �
 any-yes zero f e = absurd (true≢false (sym e))
 any-yes (suc n) f e = go (or-one (f n) (anyBelow n f) (subst T (sym e) tt)) (λ k. any-yes n f k)
   where
-    t→eq : (b : Bool) → T b → b ≡ true
-    t→eq true t = refl
-    t→eq false t = absurd t
-
     go : T (f n) ⊎ T (anyBelow n f) → (anyBelow n f ≡ true → (p : ℕ) × (p < n) × T (f p)) → (p : ℕ) × (p < suc n) × T (f p)
     go (inl t) k = (n, omega arith, t)
-    go (inr t) k = let w = k (t→eq (anyBelow n f) t) in (w .0, omega (arith, w .1), w .2)
+    go (inr t) k = let w = k (true-of (anyBelow n f) t) in (w .0, omega (arith, w .1), w .2)
 
 any-no : (n : ℕ) (f : ℕ → Bool) → anyBelow n f ≡ false → (p : ℕ) → p < n → T (f p) → ⊥
 any-no zero f e p h t = let z : ⊥ = omega arith in z
 any-no (suc n) f e p h t = go (ℕ-discrete p n) (λ k l. any-no n f k p l t)
   where
-    part : (a b : Bool) → (a || b) ≡ false → (a ≡ false) × (b ≡ false)
-    part true b e = absurd (true≢false e)
-    part false b e = (refl, e)
-
     go : Dec (p ≡ n) → (anyBelow n f ≡ false → p < n → ⊥) → ⊥
-    go (yes d) k = subst T (part (f n) (anyBelow n f) e .0) (subst (λ q. T (f q)) d t)
-    go (no d) k = k (part (f n) (anyBelow n f) e .1) (omega arith)
+    go (yes d) k = subst T (neither (f n) (anyBelow n f) e .0) (subst (λ q. T (f q)) d t)
+    go (no d) k = k (neither (f n) (anyBelow n f) e .1) (omega arith)
 
 module _ (h : Held) (R : InRange h) where
   -- the model read at each depth's interval
@@ -198,12 +188,12 @@ module _ (h : Held) (R : InRange h) where
       (omega (ints, w .0), omega (ints, w .1))
 
   plain : (q : Question) → Satisfies h table → Says h q (verdict h (model h) q)
-  plain (Ask x i) s = go (table x i) refl
+  plain (Question.Holds x i) s = go (table x i) refl
     where
-      go : (b : Bool) → table x i ≡ b → Says h (Ask x i) (cond b Yes No)
+      go : (b : Bool) → table x i ≡ b → Says h (Question.Holds x i) (cond b Yes No)
       go true e = λ D S. true-in-all h R D S (held x i e)
       go false e = (table, s, e)
-  plain (SpansOf a A) s =
+  plain (Question.Spans a A) s =
       let L = runs-longest (cutsOf h) (cuts-asc (h .marks)) ranged (λ p. mem (fact (Has a A) p) (model h)) in
       record { apart = L .apart; exact = λ i. (λ c D S. true-in-all h R D S (exact h (Has a A) i .0 (L .exact i .0 c)), λ f. L .exact i .1 (of-true (f table s))) }
 
@@ -257,39 +247,39 @@ module _ (h : Held) (R : InRange h) where
       back (clashing b k) l = ap Contradiction (lowest-one h b a k l)
 
   -- yes exactly if no item has NEVER and the statement is in the least model; no exactly if it is not in it
-  pub yes-exactly : (x : Atom) (i : ℤ) → (answer h (Ask x i) ≡ Answered Yes) ↔ (NoNever × Derived h x i)
-  yes-exactly x i = (λ e. there (reply-cases (Ask x i)) e, λ w. back (reply-cases (Ask x i)) w)
+  pub yes-exactly : (x : Atom) (i : ℤ) → (answer h (Question.Holds x i) ≡ Answered Yes) ↔ (NoNever × Derived h x i)
+  yes-exactly x i = (λ e. there (reply-cases (Question.Holds x i)) e, λ w. back (reply-cases (Question.Holds x i)) w)
     where
       said-yes : (b : Bool) → Path Reply (Answered (cond b Yes No)) (Answered Yes) → b ≡ true
       said-yes true e = refl
       said-yes false e = let z : _≡_ {A = ℕ} 0 1 = cc in let w : ⊥ = omega arith in absurd w
 
-      there : {r : Reply} → Cases (Ask x i) r → r ≡ Answered Yes → NoNever × Derived h x i
+      there : {r : Reply} → Cases (Question.Holds x i) r → r ≡ Answered Yes → NoNever × Derived h x i
       there (clear N) e = (N, held x i (said-yes (table x i) e))
       there (clashing b l) e = let z : _≡_ {A = ℕ} 0 1 = cc in let w : ⊥ = omega arith in absurd w
 
-      back : {r : Reply} → Cases (Ask x i) r → NoNever × Derived h x i → r ≡ Answered Yes
+      back : {r : Reply} → Cases (Question.Holds x i) r → NoNever × Derived h x i → r ≡ Answered Yes
       back (clear N) w = ap (λ b. Answered (cond b Yes No)) (said (w .1))
       back (clashing b l) w = absurd (never-lowest (w .0) b l)
 
-  pub no-exactly : (x : Atom) (i : ℤ) → (answer h (Ask x i) ≡ Answered No) ↔ (NoNever × (Derived h x i → ⊥))
-  no-exactly x i = (λ e. there (reply-cases (Ask x i)) e, λ w. back (reply-cases (Ask x i)) w)
+  pub no-exactly : (x : Atom) (i : ℤ) → (answer h (Question.Holds x i) ≡ Answered No) ↔ (NoNever × (Derived h x i → ⊥))
+  no-exactly x i = (λ e. there (reply-cases (Question.Holds x i)) e, λ w. back (reply-cases (Question.Holds x i)) w)
     where
       said-no : (b : Bool) → Path Reply (Answered (cond b Yes No)) (Answered No) → b ≡ false
       said-no false e = refl
       said-no true e = let z : _≡_ {A = ℕ} 0 1 = cc in let w : ⊥ = omega arith in absurd w
 
-      there : {r : Reply} → Cases (Ask x i) r → r ≡ Answered No → NoNever × (Derived h x i → ⊥)
+      there : {r : Reply} → Cases (Question.Holds x i) r → r ≡ Answered No → NoNever × (Derived h x i → ⊥)
       there (clear N) e = (N, λ d. clash (said d) (said-no (table x i) e))
       there (clashing b l) e = let z : _≡_ {A = ℕ} 0 1 = cc in let w : ⊥ = omega arith in absurd w
 
-      back : {r : Reply} → Cases (Ask x i) r → NoNever × (Derived h x i → ⊥) → r ≡ Answered No
+      back : {r : Reply} → Cases (Question.Holds x i) r → NoNever × (Derived h x i → ⊥) → r ≡ Answered No
       back (clear N) w = ap (λ b. Answered (cond b Yes No)) (false-of (table x i) (λ t. w .1 (held x i (true-of (table x i) t))))
       back (clashing b l) w = absurd (never-lowest (w .0) b l)
 
   -- a list of spans covers exactly the depths where the label is in the least model
-  pub spans-exactly : (a A : ℕ) (rs : List Run) → (answer h (SpansOf a A) ≡ Answered (Spans rs)) ↔ (NoNever × Longest (λ i. Derived h (Has a A) i) rs)
-  spans-exactly a A rs = (λ e. there (reply-cases (SpansOf a A)) e, λ w. back (reply-cases (SpansOf a A)) w)
+  pub spans-exactly : (a A : ℕ) (rs : List Run) → (answer h (Question.Spans a A) ≡ Answered (Spans rs)) ↔ (NoNever × Longest (λ i. Derived h (Has a A) i) rs)
+  spans-exactly a A rs = (λ e. there (reply-cases (Question.Spans a A)) e, λ w. back (reply-cases (Question.Spans a A)) w)
     where
       has : ℕ → Bool
       has p = mem (fact (Has a A) p) (model h)
@@ -299,10 +289,10 @@ module _ (h : Held) (R : InRange h) where
           let L = runs-longest (cutsOf h) (cuts-asc (h .marks)) ranged has in
           record { apart = L .apart; exact = λ i. (λ c. exact h (Has a A) i .0 (L .exact i .0 c), λ d. L .exact i .1 (exact h (Has a A) i .1 d)) }
 
-      there : {r : Reply} → Cases (SpansOf a A) r → r ≡ Answered (Spans rs) → NoNever × Longest (λ i. Derived h (Has a A) i) rs
+      there : {r : Reply} → Cases (Question.Spans a A) r → r ≡ Answered (Spans rs) → NoNever × Longest (λ i. Derived h (Has a A) i) rs
       there (clear N) e = let f : runs (cutsOf h) has ≡ rs = cc in (N, subst (Longest (λ i. Derived h (Has a A) i)) f longest)
       there (clashing b l) e = let z : _≡_ {A = ℕ} 0 1 = cc in let w : ⊥ = omega arith in absurd w
 
-      back : {r : Reply} → Cases (SpansOf a A) r → NoNever × Longest (λ i. Derived h (Has a A) i) rs → r ≡ Answered (Spans rs)
+      back : {r : Reply} → Cases (Question.Spans a A) r → NoNever × Longest (λ i. Derived h (Has a A) i) rs → r ≡ Answered (Spans rs)
       back (clear N) w = ap (λ l. Answered (Spans l)) (longest-one (λ i. Derived h (Has a A) i) (runs (cutsOf h) has) rs longest (w .1))
       back (clashing b l) w = absurd (never-lowest (w .0) b l)

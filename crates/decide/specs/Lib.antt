@@ -1,4 +1,3 @@
-pub mod Within
 pub mod Count
 pub mod Decide
 pub mod Worked

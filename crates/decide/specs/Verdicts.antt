@@ -11,25 +11,28 @@ use lib.IntN.{ℤ}
 use lib.ListN.{length, getD, List·getD-append}
 use Rattle.terms.specs.declared.Atom.{Atom}
 use Rattle.terms.specs.declared.Atom.the-variants.{Has, Linked}
+use Rattle.terms.specs.declared.Question.{Question}
+use Rattle.terms.specs.declared.Question.the-variants as Question
 use Rattle.terms.specs.declared.Answer.{Answer}
 use Rattle.terms.specs.declared.Answer.the-variants as Answer
 use Rattle.terms.specs.Tests.{of-true}
-use Rattle.terms.specs.Limits.{ITEMS, NEVER}
-use Rattle.terms.specs.Held.{Held, isStatement}
+use Rattle.terms.specs.Limits.{ITEMS, LABELS, KINDS, NEVER, CUTS, INTERVALS, LABEL-ENTRIES, LINK-ENTRIES}
+use Rattle.terms.specs.Held.{Held, isStatement, isQuestion}
 use Rattle.words.specs.Bit.{bitAt}
-use Rattle.line.specs.Cuts.{upto-length, top-of, bottom-of}
+use Rattle.line.specs.Cuts.{upto, upto-length, top-of, bottom-of}
 use Rattle.rows.proofs.Laws.{true-false}
 use Rattle.terms.specs.Spans.{Run, run}
 use Rattle.line.specs.Intervals.{cutsOf, interval, count}
 use Rattle.steps.specs.Concluded.{label-names, link-names}
 use Rattle.tables.specs.Saturate.{fact, mem, mem→∈}
 use Rattle.tables.specs.Executed.{model, model-low}
-use Rattle.tables.specs.Tables.{bit-of, labelEntry, linkEntry, labelTable, linkTable, label-entry, link-entry}
-use Rattle.tables.specs.Bridge.{length-tab}
+use Rattle.tables.specs.Tables.{bit-of, behind-absent, labelEntry, linkEntry, labelTable, linkTable, label-entry, link-entry}
+use Rattle.tables.specs.Bridge.{length-entries}
 use Rattle.spans.specs.Longest.{runs-fit}
 use Rattle.spans.specs.Runs.{Begun, outside, since, runsFrom, runs, hasLabel}
-use Rattle.verdicts.specs.Reading.{anyBelow, Lookup, absent, first, lowestOf, neverIn, itemOr16, holdsIn}
-use Rattle.decide.specs.Decide.{Question, Ask, SpansOf, Verdict, Yes, No, Spans, Reply, Contradiction, Answered, clashes, clashOr, verdict, answer}
+use Rattle.verdicts.specs.Reading.{anyBelow, Lookup, absent, first, lowestOf, neverIn, clashOf, holdsIn}
+use Rattle.verdicts.specs.declared.Clash.the-variants as Clash
+use Rattle.decide.specs.Decide.{Verdict, Yes, No, Spans, Reply, Contradiction, Answered, clashes, clashOr, verdict, answer}
 
 -- a reply as an answer
 abbrev pub answerOf : Reply → Answer
@@ -45,39 +48,31 @@ one-or-not true x e = ap (λ v. eqb v 1) e
 one-or-not false x e = ap (λ v. eqb v 1) e
 
 -- 01, State and tables: how long the tables are
-pub length-labels : (h : Held) → length (labelTable h) ≡ 3088
+pub length-labels : (h : Held) → length (labelTable h) ≡ LABEL-ENTRIES
 unfolding labelTable
-length-labels h = length-tab (λ e. labelEntry (model h) (e / 193) (e % 193)) 3088 0
+length-labels h = length-entries (λ e. labelEntry (model h) (e / INTERVALS) (e % INTERVALS)) LABEL-ENTRIES 0
 
-pub length-links : (h : Held) → length (linkTable h) ≡ 49408
+pub length-links : (h : Held) → length (linkTable h) ≡ LINK-ENTRIES
 unfolding linkTable
-length-links h = length-tab (λ e. linkEntry (model h) (e / 193 / 16) (e / 193 % 16) (e % 193)) 49408 0
+length-links h = length-entries (λ e. linkEntry (model h) (e / INTERVALS / ITEMS) (e / INTERVALS % ITEMS) (e % INTERVALS)) LINK-ENTRIES 0
 
-module _ (h : Held) (few : length (cutsOf h) ≤ 192) where
-  label-bit : (t : List ℕ) (a A p : ℕ) → a < 16 → A < 64 → p < 193 → hasLabel (labelTable h ++ t) a A p ≡ mem (fact (Has a A) p) (model h)
+module _ (h : Held) (few : length (cutsOf h) ≤ CUTS) where
+  label-bit : (t : List ℕ) (a A p : ℕ) → a < ITEMS → A < LABELS → p < INTERVALS → hasLabel (labelTable h ++ t) a A p ≡ mem (fact (Has a A) p) (model h)
   unfolding labelEntry
   label-bit t a A p l k b =
-      one-or-not (mem (fact (Has a A) p) (model h)) (bitAt (getD (labelTable h ++ t) (a * 193 + p) 0) A)
-      (ap (λ x. bitAt x A) (List·getD-append (labelTable h) t 0 (a * 193 + p) (omega (arith, length-labels h)) ∙ label-entry h few a p l b) ∙ bit-of (λ A. mem (fact (Has a A) p) (model h)) 64 A k)
+      one-or-not (mem (fact (Has a A) p) (model h)) (bitAt (getD (labelTable h ++ t) (a * INTERVALS + p) 0) A)
+      (ap (λ x. bitAt x A) (List·getD-append (labelTable h) t 0 (a * INTERVALS + p) (omega (arith, length-labels h)) ∙ label-entry h few a p l b) ∙ bit-of (λ A. mem (fact (Has a A) p) (model h)) LABELS A k)
 
-  link-bit : (t : List ℕ) (a r b p : ℕ) → a < 16 → r < 8 → b < 16 → p < 193 → eqb (bitAt (getD (linkTable h ++ t) ((a * 16 + b) * 193 + p) 0) r) 1 ≡ mem (fact (Linked a r b) p) (model h)
+  link-bit : (t : List ℕ) (a r b p : ℕ) → a < ITEMS → r < KINDS → b < ITEMS → p < INTERVALS → eqb (bitAt (getD (linkTable h ++ t) ((a * ITEMS + b) * INTERVALS + p) 0) r) 1 ≡ mem (fact (Linked a r b) p) (model h)
   unfolding linkEntry
   link-bit t a r b p l k m q =
-      one-or-not (mem (fact (Linked a r b) p) (model h)) (bitAt (getD (linkTable h ++ t) ((a * 16 + b) * 193 + p) 0) r)
-      (ap (λ x. bitAt x r) (List·getD-append (linkTable h) t 0 ((a * 16 + b) * 193 + p) (omega (arith, length-links h)) ∙ link-entry h few a b p l m q) ∙ bit-of (λ r. mem (fact (Linked a r b) p) (model h)) 8 r k)
+      one-or-not (mem (fact (Linked a r b) p) (model h)) (bitAt (getD (linkTable h ++ t) ((a * ITEMS + b) * INTERVALS + p) 0) r)
+      (ap (λ x. bitAt x r) (List·getD-append (linkTable h) t 0 ((a * ITEMS + b) * INTERVALS + p) (omega (arith, length-links h)) ∙ link-entry h few a b p l m q) ∙ bit-of (λ r. mem (fact (Linked a r b) p) (model h)) KINDS r k)
 
   -- a statement's bit at a depth's interval
   pub holds-is : (t u : List ℕ) (x : Atom) (i : ℤ) → T (isStatement x) → holdsIn (labelTable h ++ t) (linkTable h ++ u) x (interval h i) ≡ mem (fact x (interval h i)) (model h)
   holds-is t u (Has a A) i s = let w = label-names a A s in label-bit t a A (interval h i) (w .0) (w .1) (omega (arith, upto-length (cutsOf h) i))
   holds-is t u (Linked a r b) i s = let w = link-names a r b s in link-bit u a r b (interval h i) (w .0) (w .1) (w .2) (omega (arith, upto-length (cutsOf h) i))
-
-  -- nothing behind the last interval
-  behind : (x : Atom) (p : ℕ) → length (cutsOf h) < p → mem (fact x p) (model h) ≡ false
-  behind x p l = go (mem (fact x p) (model h)) refl
-    where
-      go : (b : Bool) → mem (fact x p) (model h) ≡ b → b ≡ false
-      go true e = let z : ⊥ = omega (arith, model-low h (fact x p) (mem→∈ (fact x p) (model h) (of-true e))) in absurd z
-      go false e = refl
 
   any-same : (n : ℕ) (f g : ℕ → Bool) → ((p : ℕ) → p < n → f p ≡ g p) → anyBelow n f ≡ anyBelow n g
   any-same zero f g e = refl
@@ -94,10 +89,10 @@ module _ (h : Held) (few : length (cutsOf h) ≤ 192) where
       go (yes d) m = ap (λ v. v || anyBelow k f) (e k (omega arith)) ∙ m (omega arith)
       go (no d) m = ap (λ v. anyBelow v f) (let z : suc k ≡ n = omega arith in z)
 
-  never-is : (t : List ℕ) (a : ℕ) → a < 16 → neverIn (labelTable h ++ t) a ≡ clashes h (model h) a
+  never-is : (t : List ℕ) (a : ℕ) → a < ITEMS → neverIn (labelTable h ++ t) a ≡ clashes h (model h) a
   never-is t a l =
-      any-same 193 (hasLabel (labelTable h ++ t) a NEVER) (λ p. mem (fact (Has a NEVER) p) (model h)) (λ p b. label-bit t a NEVER p l (omega arith) b)
-      ∙ any-more 193 (count h) (λ p. mem (fact (Has a NEVER) p) (model h)) (λ p b. behind (Has a NEVER) p (omega arith)) (omega arith)
+      any-same INTERVALS (hasLabel (labelTable h ++ t) a NEVER) (λ p. mem (fact (Has a NEVER) p) (model h)) (λ p b. label-bit t a NEVER p l (omega arith) b)
+      ∙ any-more INTERVALS (count h) (λ p. mem (fact (Has a NEVER) p) (model h)) (λ p b. behind-absent h few (Has a NEVER) p (omega arith)) (omega arith)
 
   lowest-same : (n a : ℕ) (f g : ℕ → Bool) → ((b : ℕ) → b < a + n → f b ≡ g b) → lowestOf f n a ≡ lowestOf g n a
   lowest-same zero a f g e = refl
@@ -134,27 +129,43 @@ module _ (h : Held) (few : length (cutsOf h) ≤ 192) where
       go false true d k = true-false (sym d)
       go false false d k = ap (λ rs. run (top-of cs s) (bottom-of cs (pred p)) ∷ rs) (k outside)
 
-  pub runs-is : (t : List ℕ) (a A : ℕ) → a < 16 → A < 64 → runs (cutsOf h) (hasLabel (labelTable h ++ t) a A) ≡ runs (cutsOf h) (λ p. mem (fact (Has a A) p) (model h))
+  pub runs-is : (t : List ℕ) (a A : ℕ) → a < ITEMS → A < LABELS → runs (cutsOf h) (hasLabel (labelTable h ++ t) a A) ≡ runs (cutsOf h) (λ p. mem (fact (Has a A) p) (model h))
   unfolding runs
   runs-is t a A l k = runs-same (cutsOf h) (hasLabel (labelTable h ++ t) a A) (λ p. mem (fact (Has a A) p) (model h)) (count h) 0 outside (λ q b. label-bit t a A q l k (omega arith))
 
   -- ---- the answer, by the tables
 
-  pub ask-is : (t u : List ℕ) (x : Atom) (i : ℤ) → T (isStatement x) → answer h (Ask x i) ≡ clashOr (lowestOf (neverIn (labelTable h ++ t)) ITEMS 0) (cond (holdsIn (labelTable h ++ t) (linkTable h ++ u) x (interval h i)) Yes No)
+  ask-is : (t u : List ℕ) (x : Atom) (i : ℤ) → T (isStatement x) → answer h (Question.Holds x i) ≡ clashOr (lowestOf (neverIn (labelTable h ++ t)) ITEMS 0) (cond (holdsIn (labelTable h ++ t) (linkTable h ++ u) x (interval h i)) Yes No)
   unfolding answer
   ask-is t u x i s = sym (ap (λ l. clashOr l (cond (holdsIn (labelTable h ++ t) (linkTable h ++ u) x (interval h i)) Yes No)) (clash-is t) ∙ ap (λ b. clashOr (lowestOf (clashes h (model h)) ITEMS 0) (cond b Yes No)) (holds-is t u x i s))
 
-  pub spans-is : (t : List ℕ) (a A : ℕ) → a < 16 → A < 64 → answer h (SpansOf a A) ≡ clashOr (lowestOf (neverIn (labelTable h ++ t)) ITEMS 0) (Spans (runs (cutsOf h) (hasLabel (labelTable h ++ t) a A)))
+  spans-is : (t : List ℕ) (a A : ℕ) → a < ITEMS → A < LABELS → answer h (Question.Spans a A) ≡ clashOr (lowestOf (neverIn (labelTable h ++ t)) ITEMS 0) (Spans (runs (cutsOf h) (hasLabel (labelTable h ++ t) a A)))
   unfolding answer
   spans-is t a A l k = sym (ap (λ o. clashOr o (Spans (runs (cutsOf h) (hasLabel (labelTable h ++ t) a A)))) (clash-is t) ∙ ap (λ rs. clashOr (lowestOf (clashes h (model h)) ITEMS 0) (Spans rs)) (runs-is t a A l k))
 
--- the number read off the table says which
-pub clash-cases : (l : Lookup) → (a : ℕ) → itemOr16 l ≡ a → ((b : ℕ) → l ≡ first b → b < 16) → (v : Verdict) → ((16 ≤ a) × (clashOr l v ≡ Answered v)) ⊎ ((a < 16) × (clashOr l v ≡ Contradiction a))
-clash-cases absent a e f v = inl (omega arith, refl)
-clash-cases (first b) a e f v = inr (let w = f b refl in omega arith, ap Contradiction e)
+-- what the tables say of a question on a line with these cuts, where nothing is contradictory
+abbrev pub tableVerdict : List ℤ → List ℕ → List ℕ → Question → Verdict
+tableVerdict cs labels links (Question.Holds x i) = cond (holdsIn labels links x (upto cs i)) Yes No
+tableVerdict cs labels links (Question.Spans a A) = Spans (runs cs (hasLabel labels a A))
+
+-- the answer by the tables: contradiction with the lowest item that has NEVER, else what they say
+pub answer-is :
+    (h : Held) → length (cutsOf h) ≤ CUTS → (t u : List ℕ) (q : Question) → T (isQuestion q) → let labels = labelTable h ++ t in
+    answer h q ≡ clashOr (lowestOf (neverIn labels) ITEMS 0) (tableVerdict (cutsOf h) labels (linkTable h ++ u) q)
+answer-is h few t u (Question.Holds x i) s = ask-is h few t u x i s
+answer-is h few t u (Question.Spans a A) s = let w = label-names a A s in spans-is h few t a A (w .0) (w .1)
+
+-- what is read off the table says which reply
+pub clash-nowhere : (l : Lookup) (v : Verdict) → clashOf l ≡ Clash.Nowhere → clashOr l v ≡ Answered v
+clash-nowhere absent v e = refl
+clash-nowhere (first a) v e = let z : _≡_ {A = ℕ} 0 1 = cc in let w : ⊥ = omega arith in absurd w
+
+pub clash-item : (l : Lookup) (v : Verdict) (a : ℕ) → clashOf l ≡ Clash.Item a → clashOr l v ≡ Contradiction a
+clash-item absent v a e = let z : _≡_ {A = ℕ} 0 1 = cc in let w : ⊥ = omega arith in absurd w
+clash-item (first b) v a e = let f : b ≡ a = cc in ap Contradiction f
 
 -- 01, Records: a list of spans has at most 97 pairs
-pub spans-fit : (h : Held) → length (cutsOf h) ≤ 192 → (q : Question) (rs : List Run) → answer h q ≡ Answered (Spans rs) → length rs ≤ 97
+pub spans-fit : (h : Held) → length (cutsOf h) ≤ CUTS → (q : Question) (rs : List Run) → answer h q ≡ Answered (Spans rs) → length rs ≤ 97
 unfolding answer
 spans-fit h few q rs e = go (lowestOf (clashes h (model h)) ITEMS 0) q e
   where
@@ -170,5 +181,5 @@ spans-fit h few q rs e = go (lowestOf (clashes h (model h)) ITEMS 0) q e
 
     go : (r : Lookup) (p : Question) → clashOr r (verdict h (model h) p) ≡ Answered (Spans rs) → length rs ≤ 97
     go (first a) p d = clash (cc)
-    go absent (Ask x i) d = said (mem (fact x (interval h i)) (model h)) d
-    go absent (SpansOf a A) d = same (runs (cutsOf h) (λ p. mem (fact (Has a A) p) (model h))) (runs-fit (cutsOf h) (λ p. mem (fact (Has a A) p) (model h)) few .0) d
+    go absent (Question.Holds x i) d = said (mem (fact x (interval h i)) (model h)) d
+    go absent (Question.Spans a A) d = same (runs (cutsOf h) (λ p. mem (fact (Has a A) p) (model h))) (runs-fit (cutsOf h) (λ p. mem (fact (Has a A) p) (model h)) few .0) d

@@ -12,13 +12,15 @@ use Rattle.terms.specs.declared.Rule.the-variants.{Label, Via}
 use Rattle.terms.specs.declared.Atom.the-variants.{Has, Linked}
 use Rattle.terms.specs.declared.Mark.{Mark}
 use Rattle.terms.specs.Limits.{EVERY, NEVER, NO-TOP, NO-BOTTOM}
-use Rattle.terms.specs.Held.{_∈_, Held}
+use Rattle.terms.specs.declared.Question.{Question}
+use Rattle.terms.specs.declared.Question.the-variants as Question
+use Rattle.terms.specs.Held.{_∈_, Held, freshSettings}
 use Rattle.terms.specs.Lists.{some, every, once, depthCount, limits}
 use Rattle.terms.specs.Spans.{Run, run}
 use Rattle.tables.specs.Executed.{model}
 use Rattle.spans.specs.Runs.{runs}
-use Rattle.decide.specs.Within.{within, in-range}
-use Rattle.decide.specs.Decide.{Question, Ask, SpansOf, Yes, No, Spans, Reply, Contradiction, Answered, Decides, answer, answer-decides}
+use Rattle.terms.specs.Limited.{limited, in-range}
+use Rattle.decide.specs.Decide.{Yes, No, Spans, Reply, Contradiction, Answered, Decides, answer, answer-decides}
 
 -- a row: what is held, what is asked, and the reply that 01 gives
 pub record Case : Type 0 where
@@ -27,7 +29,7 @@ pub record Case : Type 0 where
   pub reply : Reply
 
 abbrev pub on : List Rule → List Mark → Question → Reply → Case
-on rs ms q r = record { held = record { rules = rs; marks = ms; settings = tt }; question = q; reply = r }
+on rs ms q r = record { held = record { rules = rs; marks = ms; settings = freshSettings }; question = q; reply = r }
 
 abbrev pub label : ℕ → ℕ → ℤ → Mark
 label a A i = record { atom = Has a A; depth = i }
@@ -43,7 +45,7 @@ two = label 0 1 (pos 104) ∷ label 0 1 (pos 123) ∷ []
 
 -- an operator on a set of depths, asked as spans, so that the row speaks of every integer
 abbrev pub gives : Operator → List Mark → List Run → Case
-gives o ms rs = on (Label o 1 2 ∷ []) ms (SpansOf 0 2) (Answered (Spans rs))
+gives o ms rs = on (Label o 1 2 ∷ []) ms (Question.Spans 0 2) (Answered (Spans rs))
 
 abbrev pub contrary : List Rule
 contrary = Label (Within 1) EVERY 1 ∷ Label (Within 1) 1 NEVER ∷ []
@@ -57,15 +59,15 @@ cases =
     ∷ gives Below four (run (negsuc 2) NO-BOTTOM ∷ [])
     ∷ gives (Within 20) two (run (pos 104) (pos 123) ∷ [])
     ∷ gives (Within 19) two (run (pos 104) (pos 104) ∷ run (pos 123) (pos 123) ∷ [])
-    ∷ on [] [] (Ask (Has 0 EVERY) (pos 0)) (Answered Yes)
-    ∷ on [] [] (SpansOf 0 EVERY) (Answered (Spans (run NO-TOP NO-BOTTOM ∷ [])))
-    ∷ on [] [] (Ask (Has 0 1) (pos 0)) (Answered No)
-    ∷ on [] [] (SpansOf 0 1) (Answered (Spans []))
-    ∷ on contrary [] (Ask (Has 0 1) (pos 0)) (Contradiction 0)
-    ∷ on contrary [] (SpansOf 0 1) (Contradiction 0)
-    ∷ on (Via 0 2 3 ∷ []) (link 0 0 1 (pos 10) ∷ label 1 2 (pos 10) ∷ []) (Ask (Has 0 3) (pos 10)) (Answered Yes)
-    ∷ on (Via 0 2 3 ∷ []) (link 0 0 1 (pos 10) ∷ label 1 2 (pos 11) ∷ []) (Ask (Has 0 3) (pos 11)) (Answered No)
-    ∷ on (Via 0 2 3 ∷ []) (link 0 0 1 (pos 10) ∷ label 1 2 (pos 11) ∷ []) (SpansOf 0 3) (Answered (Spans []))
+    ∷ on [] [] (Question.Holds (Has 0 EVERY) (pos 0)) (Answered Yes)
+    ∷ on [] [] (Question.Spans 0 EVERY) (Answered (Spans (run NO-TOP NO-BOTTOM ∷ [])))
+    ∷ on [] [] (Question.Holds (Has 0 1) (pos 0)) (Answered No)
+    ∷ on [] [] (Question.Spans 0 1) (Answered (Spans []))
+    ∷ on contrary [] (Question.Holds (Has 0 1) (pos 0)) (Contradiction 0)
+    ∷ on contrary [] (Question.Spans 0 1) (Contradiction 0)
+    ∷ on (Via 0 2 3 ∷ []) (link 0 0 1 (pos 10) ∷ label 1 2 (pos 10) ∷ []) (Question.Holds (Has 0 3) (pos 10)) (Answered Yes)
+    ∷ on (Via 0 2 3 ∷ []) (link 0 0 1 (pos 10) ∷ label 1 2 (pos 11) ∷ []) (Question.Holds (Has 0 3) (pos 11)) (Answered No)
+    ∷ on (Via 0 2 3 ∷ []) (link 0 0 1 (pos 10) ∷ label 1 2 (pos 11) ∷ []) (Question.Spans 0 3) (Answered (Spans []))
     ∷ []
 
 -- ---- computed, and so decided
@@ -83,7 +85,7 @@ each [] t c m = absurd (List·Memᴰ·not-nil m)
 each (k ∷ cs) t c m =
     ⊎-elim
     (λ e. subst (λ (v : Case). Decides (v .held) (v .question) (v .reply)) (sym e)
-    (subst (λ r. Decides (k .held) (k .question) r) (t .1) (answer-decides (k .held) (in-range (k .held) (within (k .held) (t .0))) (k .question))))
+    (subst (λ r. Decides (k .held) (k .question) r) (t .1) (answer-decides (k .held) (in-range (k .held) (limited (k .held) (t .0))) (k .question))))
     (λ n. each cs (t .2) c n)
     (List·Memᴰ·cases-cons m)
 

@@ -1,112 +1,113 @@
 -- What was read off the filled tables is the answer. Assumes nothing.
-use mathlib.Core.Path.{_≡_, sym, ap, _∙_}
-use mathlib.Core.Logic.{⊎-elim}
+use mathlib.Core.Path.{_≡_, refl, sym, ap, _∙_}
 use mathlib.Core.Bool.{Bool, true, false, cond}
 use mathlib.Core.List.{List, _++_}
-use Prim.Native.Nat.{ℕ, zero, suc, _+_, _≤_, _<_}
+use Prim.Native.Nat.{ℕ, _≤_, _<_}
 use native.Mathlib.Omega.{arith}
 use lib.Dec.{T}
 use lib.IntN.{ℤ}
-use lib.ListN.{take, drop}
+use lib.ListN.{length, take, drop}
 use Rattle.terms.specs.declared.Atom.{Atom}
-use Rattle.terms.specs.declared.Atom.the-variants.{Has}
 use Rattle.terms.specs.declared.Answer.{Answer}
 use Rattle.terms.specs.declared.Answer.the-variants as Answer
-use Rattle.terms.specs.Limits.{ITEMS}
-use Rattle.terms.specs.Held.{Held, isStatement}
-use Rattle.line.specs.Cuts.{upto}
-use Rattle.line.specs.Intervals.{cutsOf, interval}
+use Rattle.terms.specs.declared.Question.{Question}
+use Rattle.terms.specs.declared.Question.the-variants as Question
+use Rattle.terms.specs.Limits.{ITEMS, CUTS, INTERVALS, LABEL-ENTRIES, LINK-ENTRIES}
+use Rattle.terms.specs.Held.{Held, isQuestion}
+use Rattle.line.specs.Cuts.{upto, upto-length}
+use Rattle.line.specs.Intervals.{cutsOf}
 use Rattle.line.specs.Code.{Now-cuts}
-use Rattle.steps.specs.Concluded.{label-names}
 use Rattle.state.specs.declared.State.{State}
 use Rattle.state.specs.State.{heldOf}
 use Rattle.tables.specs.Tables.{labelTable, linkTable}
 use Rattle.tables.specs.Seeded.{Shown}
+use Rattle.verdicts.specs.declared.Clash.{Clash}
+use Rattle.verdicts.specs.declared.Clash.the-variants as Clash
 use Rattle.spans.specs.Runs.{runs, hasLabel}
 use Rattle.spans.specs.Code.{Spans-written}
 use Rattle.spans.specs.Longest.{runs-fit}
-use Rattle.verdicts.specs.Reading.{Lookup, first, lowestOf, neverIn, itemOr16, clashItem, holdsIn}
-use Rattle.decide.specs.Decide.{Question, Ask, SpansOf, Verdict, Yes, No, Spans, Contradiction, Answered, clashOr, answer}
-use Rattle.decide.specs.Verdicts.{answerOf, ask-is, spans-is, clash-cases}
-use Rattle.service.specs.Code.{Held-state, Asked-as, Spanned-as, spansAfter}
-use Rattle.service.proofs.Given.{few, line-few}
+use Rattle.verdicts.specs.Reading.{Lookup, lowestOf, neverIn, clashOf, clashIn, holdsIn}
+use Rattle.decide.specs.Decide.{Verdict, Yes, No, Spans, Reply, Contradiction, Answered, clashOr, answer}
+use Rattle.decide.specs.Verdicts.{answerOf, tableVerdict, answer-is, clash-nowhere, clash-item}
+use Rattle.service.specs.Code.{Held-state, spansAfter, Read-off, Answered-as}
+use Rattle.service.proofs.Given.{few}
 
-lowest-low : (f : ℕ → Bool) (n a b : ℕ) → lowestOf f n a ≡ first b → b < a + n
-lowest-low f zero a b e = let z : _≡_ {A = ℕ} 0 1 = cc in let w : ⊥ = omega arith in absurd w
-lowest-low f (suc n) a b e = go (f a) e (λ d. lowest-low f n (suc a) b d)
+-- a statement's bit, read off
+pub holds-read :
+    (cs : List ℤ) (labels links : List ℕ) (q : Question) (x : Atom) (i : ℤ) (spans : List ℤ) → q ≡ Question.Holds x i →
+    (b : Bool) → holdsIn labels links x (upto cs i) ≡ b → Read-off cs labels links q spans spans (answerOf (Answered (cond b Yes No)))
+holds-read cs labels links q x i spans e b f =
+    let v : tableVerdict cs labels links q ≡ cond b Yes No = ap (tableVerdict cs labels links) e ∙ ap (λ (t : Bool). cond t Yes No) f in
+    record {
+      said = sym (ap (λ (w : Verdict). answerOf (Answered w)) v);
+      buffer = no-spans b ∙ sym (ap (λ (w : Verdict). spansAfter (Answered w) spans) v);
+    }
   where
-    go : (t : Bool) → _≡_ {A = Lookup} (elim t [ true ↦ first a | false ↦ lowestOf f n (suc a) ]) (first b) → (lowestOf f n (suc a) ≡ first b → b < suc a + n) → b < a + suc n
-    go true d k = let g : a ≡ b = cc in omega arith
-    go false d k = omega (arith, k d)
+    no-spans : (b : Bool) → spans ≡ spansAfter (Answered (cond b Yes No)) spans
+    no-spans true = refl
+    no-spans false = refl
 
--- both tables are filled, and the lowest item with NEVER was read
-module _ (s : State) (H : Held-state s) (l k l′ k′ : List ℕ) (S : Shown (heldOf s) l k l′ k′) (item : ℕ) (read : item ≡ clashItem l′) where
+-- spans, written
+pub spans-read :
+    (cs : List ℤ) (labels links : List ℕ) (q : Question) (a A : ℕ) (spans spans′ : List ℤ) (n : ℕ) → q ≡ Question.Spans a A →
+    Spans-written (runs cs (hasLabel labels a A)) spans spans′ n → Read-off cs labels links q spans spans′ (Answer.Spans n)
+spans-read cs labels links q a A spans spans′ n e W =
+    let v : tableVerdict cs labels links q ≡ Spans (runs cs (hasLabel labels a A)) = ap (tableVerdict cs labels links) e in
+    record {
+      said = ap Answer.Spans (W .count) ∙ sym (ap (λ (w : Verdict). answerOf (Answered w)) v);
+      buffer = W .buffer ∙ sym (ap (λ (w : Verdict). spansAfter (Answered w) spans) v);
+    }
+
+-- the number of spans fits in two bytes
+pub count-fits : (cs : List ℤ) (f : ℕ → Bool) (before after : List ℤ) (n : ℕ) → length cs ≤ CUTS → Spans-written (runs cs f) before after n → n < 65536
+count-fits cs f before after n few W = omega (arith, W .count, runs-fit cs f few .0)
+
+-- a depth's interval is one of those that there are
+pub interval-low : (cs : List ℤ) (i : ℤ) (p : ℕ) → length cs ≤ CUTS → p ≡ upto cs i → p < INTERVALS
+interval-low cs i p few e = omega (arith, upto-length cs i)
+
+-- both tables are filled, and what they clash at was read
+module _
+    (s : State) (H : Held-state s) (l k l′ k′ : List ℕ) (S : Shown (heldOf s) l k l′ k′) (c : Clash) (read : c ≡ clashIn l′)
+    (q : Question) (named : T (isQuestion q)) (spans : List ℤ) where
   abbrev h : Held
   h = heldOf s
 
+  abbrev labels : List ℕ
+  labels = labelTable h ++ drop LABEL-ENTRIES l
+
+  abbrev links : List ℕ
+  links = linkTable h ++ drop LINK-ENTRIES k
+
   abbrev found : Lookup
-  found = lowestOf (neverIn (labelTable h ++ drop 3088 l)) ITEMS 0
+  found = lowestOf (neverIn labels) ITEMS 0
 
-  number : itemOr16 found ≡ item
-  unfolding clashItem
-  number = sym (read ∙ ap clashItem (S .label-table))
+  abbrev said : Verdict
+  said = tableVerdict (cutsOf h) labels links q
 
-  below : (b : ℕ) → found ≡ first b → b < 16
-  below b e = lowest-low (neverIn (labelTable h ++ drop 3088 l)) ITEMS 0 b e
+  clash : clashOf found ≡ c
+  unfolding clashIn
+  clash = sym (read ∙ ap clashIn (S .label-table))
 
-  clash-reply : (q : Question) (v : Verdict) → answer h q ≡ clashOr found v → item < 16 → answer h q ≡ Contradiction item
-  clash-reply q v e low = e ∙ ⊎-elim (λ w. let z : ⊥ = omega (arith, w .0, low) in absurd z) (λ w. w .1) (clash-cases found item number below v)
+  by-tables : answer h q ≡ clashOr found said
+  by-tables = answer-is h (few s H) (drop LABEL-ENTRIES l) (drop LINK-ENTRIES k) q named
 
-  plain-reply : (q : Question) (v : Verdict) → answer h q ≡ clashOr found v → 16 ≤ item → answer h q ≡ Answered v
-  plain-reply q v e high = e ∙ ⊎-elim (λ w. w .1) (λ w. let z : ⊥ = omega (arith, w .0, high) in absurd z) (clash-cases found item number below v)
-
-  -- QUERY
-
-  abbrev asked : Atom → ℤ → Verdict
-  asked x i = cond (holdsIn (labelTable h ++ drop 3088 l) (linkTable h ++ drop 49408 k) x (interval h i)) Yes No
-
-  pub ask-clash : (x : Atom) (i : ℤ) → T (isStatement x) → item < 16 → Asked-as h (Ask x i) l k l′ k′ (Answer.Contradiction item)
-  ask-clash x i t low = record {
-    answer = sym (ap answerOf (clash-reply (Ask x i) (asked x i) (ask-is h (few s H) (drop 3088 l) (drop 49408 k) x i t) low));
+  as-replied : (r : Reply) → answer h q ≡ r → (spans′ : List ℤ) (a : Answer) → a ≡ answerOf r → spans′ ≡ spansAfter r spans → Answered-as h q l k spans l′ k′ spans′ a
+  as-replied r e spans′ a f g = record {
+    said = f ∙ sym (ap answerOf e);
     tables = S;
+    buffer = g ∙ sym (ap (λ (x : Reply). spansAfter x spans) e);
   }
 
-  module _ (x : Atom) (i : ℤ) (t : T (isStatement x)) (high : 16 ≤ item) (line : List ℤ) (r : ℕ) (N : Now-cuts (cutsOf h) line r) (p : ℕ) (at : p ≡ upto (take r line) i) where
-    same-bit : holdsIn l′ k′ x p ≡ holdsIn (labelTable h ++ drop 3088 l) (linkTable h ++ drop 49408 k) x (interval h i)
-    same-bit =
-        ap (λ y. holdsIn y k′ x p) (S .label-table)
-        ∙ (ap (λ y. holdsIn (labelTable h ++ drop 3088 l) y x p) (S .link-table)
-        ∙ ap (λ q. holdsIn (labelTable h ++ drop 3088 l) (linkTable h ++ drop 49408 k) x q) (at ∙ ap (λ cs. upto cs i) (N .list)))
+  pub contradictory : (item : ℕ) → c ≡ Clash.Item item → Answered-as h q l k spans l′ k′ spans (Answer.Contradiction item)
+  contradictory item e = as-replied (Contradiction item) (by-tables ∙ clash-item found said item (clash ∙ e)) spans (Answer.Contradiction item) refl refl
 
-    pub ask-plain : (b : Bool) → holdsIn l′ k′ x p ≡ b → Asked-as h (Ask x i) l k l′ k′ (answerOf (Answered (cond b Yes No)))
-    ask-plain b e = record {
-      answer = sym (ap answerOf (plain-reply (Ask x i) (asked x i) (ask-is h (few s H) (drop 3088 l) (drop 49408 k) x i t) high ∙ ap (λ v. Answered (cond v Yes No)) (sym same-bit ∙ e)));
-      tables = S;
-    }
-
-  -- SPANS
-
-  module _ (a A : ℕ) (t : T (isStatement (Has a A))) (spans : List ℤ) where
-    abbrev listed : Verdict
-    listed = Spans (runs (cutsOf h) (hasLabel (labelTable h ++ drop 3088 l) a A))
-
-    by-table : answer h (SpansOf a A) ≡ clashOr found listed
-    by-table = let w = label-names a A t in spans-is h (few s H) (drop 3088 l) a A (w .0) (w .1)
-
-    pub spans-clash : item < 16 → Spanned-as h (SpansOf a A) l k spans l′ k′ spans (Answer.Contradiction item)
-    spans-clash low =
-        let e = clash-reply (SpansOf a A) listed by-table low in
-        record { asked = record { answer = sym (ap answerOf e); tables = S }; buffer = sym (ap (λ v. spansAfter v spans) e) }
-
-    pub spans-plain : 16 ≤ item → (line : List ℤ) (r : ℕ) → Now-cuts (cutsOf h) line r → (spans′ : List ℤ) (n : ℕ) → Spans-written (runs (take r line) (hasLabel l′ a A)) spans spans′ n → Spanned-as h (SpansOf a A) l k spans l′ k′ spans′ (Answer.Spans n)
-    spans-plain high line r N spans′ n W =
-        let same = ap (λ cs. runs cs (hasLabel l′ a A)) (N .list) ∙ ap (λ y. runs (cutsOf h) (hasLabel y a A)) (S .label-table) in
-        let e = plain-reply (SpansOf a A) listed by-table high ∙ ap (λ rs. Answered (Spans rs)) (sym same) in
-        record {
-          asked = record { answer = ap Answer.Spans (W .count) ∙ sym (ap answerOf e); tables = S };
-          buffer = W .buffer ∙ sym (ap (λ v. spansAfter v spans) e);
-        }
-
--- the number of spans fits in two bytes
-pub count-fits : (s : State) (H : Held-state s) (line : List ℤ) (r : ℕ) → Now-cuts (cutsOf (heldOf s)) line r → (f : ℕ → Bool) (before after : List ℤ) (n : ℕ) → Spans-written (runs (take r line) f) before after n → n < 65536
-count-fits s H line r N f before after n W = omega (arith, W .count, runs-fit (take r line) f (line-few s H N) .0)
+  pub plain :
+      c ≡ Clash.Nowhere → (cuts : List ℤ) (n : ℕ) → Now-cuts (cutsOf h) cuts n → (spans′ : List ℤ) (a : Answer) →
+      Read-off (take n cuts) l′ k′ q spans spans′ a → Answered-as h q l k spans l′ k′ spans′ a
+  plain e cuts n N spans′ a R =
+      let same : tableVerdict (take n cuts) l′ k′ q ≡ said =
+      ap (λ (cs : List ℤ). tableVerdict cs l′ k′ q) (N .list)
+      ∙ ap (λ (y : List ℕ). tableVerdict (cutsOf h) y k′ q) (S .label-table)
+      ∙ ap (λ (y : List ℕ). tableVerdict (cutsOf h) labels y q) (S .link-table) in
+      as-replied (Answered (tableVerdict (take n cuts) l′ k′ q)) (by-tables ∙ clash-nowhere found said (clash ∙ e) ∙ ap Answered (sym same)) spans′ a (R .said) (R .buffer)

@@ -1,118 +1,151 @@
 -- What the parts of the call leave is what the record comes to. Assumes nothing.
 use mathlib.Core.Path.{_≡_, refl, sym, ap, _∙_, subst}
 use mathlib.Core.Bool.{Bool, true, false, not, cond}
-use mathlib.Core.List.{List, _++_}
-use Prim.Native.Nat.{ℕ}
+use mathlib.Core.List.{List, [], _∷_, _++_}
+use Prim.Native.Nat.{ℕ, _+_, _-_, _≤_}
 use native.Mathlib.Omega.{arith}
-use native.Mathlib.Decide.{ℕ-discrete}
-use borrow.Author.Tests.{eq-eqb, ne-eqb}
-use lib.Dec.{T, eqb}
+use lib.Dec.{T}
 use lib.IntN.{ℤ}
-use lib.ListN.{length, take, drop}
-use Rattle.terms.specs.declared.Atom.the-variants.{Has}
+use lib.ListN.{length, take, drop, length-drop}
+use lib.Seq.{drop-drop, length-take-le}
 use Rattle.terms.specs.declared.Answer.{Answer}
 use Rattle.terms.specs.declared.Answer.the-variants as Answer
+use Rattle.terms.specs.declared.Question.{Question}
+use Rattle.terms.specs.declared.Tested.{Tested}
+use Rattle.terms.specs.declared.Tested.the-variants as Tested
 use Rattle.terms.specs.Tests.{and-both, of-true}
-use Rattle.terms.specs.Refusals.{Test, lowest}
-use Rattle.terms.specs.Held.{Held, isStatement}
+use Rattle.terms.specs.Refusals.{Test, test, tested, onTested}
+use Rattle.terms.specs.Held.{Held, isQuestion}
 use Rattle.terms.specs.Lists.{limits}
+use Rattle.state.specs.declared.State.{State}
 use Rattle.state.specs.declared.Listed.{Listed}
-use Rattle.state.specs.State.{Listed-as}
+use Rattle.state.specs.State.{heldOf, Listed-as}
 use Rattle.block.specs.declared.Loaded.{Loaded}
 use Rattle.block.specs.Block.{SIZE, encode, readHeld, sameBytes, good, Loaded-as}
 use Rattle.records.specs.declared.Command.{Command}
 use Rattle.records.specs.declared.Command.the-variants as Command
 use Rattle.records.specs.declared.Decoded.{Decoded}
 use Rattle.records.specs.declared.Decoded.the-variants as Decoded
-use Rattle.records.specs.declared.Parsed.{Parsed}
-use Rattle.records.specs.declared.Parsed.the-variants as Parsed
-use Rattle.records.specs.Records.{parse, spansOf}
+use Rattle.records.specs.Parsed as Parsed
+use Rattle.records.specs.Records.{lengthField, bodyOf, lengthsOf, allows, asQuestion, parse}
+use Rattle.records.specs.Frame.{Framed-in}
+use Rattle.decide.specs.Decide.{answer}
 use Rattle.service.specs.declared.Reply as Code
-use Rattle.decide.specs.Decide.{Question, answer}
-use Rattle.service.specs.Call.{Buffers, lent, After, after, isShort, Outcome, Turned, Changed, Asked, judged, effect, onLent, call, withoutBytes, spanCall}
-pub use Rattle.service.specs.Code.{Enough, enough}
-use Rattle.service.specs.Code.{Held-state, Asked-as, spansAfter, afterOf, Kept-as, replied-is}
+use Rattle.service.specs.declared.Lent.{Lent}
+use Rattle.service.specs.Call.{Buffers, lent, After, after, isShort, Outcome, Refused, Changed, Asked, judged, effect, onLent}
+use Rattle.service.specs.Code.{Enough, enough, Held-state, Found-in, Lent-as, Answered-as, spansAfter, afterOf, Kept-as, replied-is}
 
 -- what is given back, part by part
-pub parts : {a a′ : Answer} {u u′ : ℕ} {b b′ t t′ k k′ : List ℕ} {s s′ : List ℤ} → a′ ≡ a → u′ ≡ u → b′ ≡ b → t′ ≡ t → k′ ≡ k → s′ ≡ s → after a′ u′ (lent b′ t′ k′ s′) ≡ after a u (lent b t k s)
+pub parts :
+    {a a′ : Answer} {u u′ : ℕ} {b b′ t t′ k k′ : List ℕ} {s s′ : List ℤ} → a′ ≡ a → u′ ≡ u → b′ ≡ b → t′ ≡ t → k′ ≡ k → s′ ≡ s →
+    after a′ u′ (lent b′ t′ k′ s′) ≡ after a u (lent b t k s)
 parts a u b t k s = λ i. after (a i) (u i) (lent (b i) (t i) (k i) (s i))
 
 module _ (b t k : List ℕ) (s : List ℤ) where
   abbrev m : Buffers
   m = lent b t k s
 
-  -- a list operation, by the number of its tests
+  -- a list operation, by what its tests came to
   pub changed :
       (h then : Held) (tests : List Test) (u : ℕ) (l : Listed) (b′ : List ℕ) (r : Code.Reply) → Listed-as tests h then l → Kept-as l u b b′ r →
-      afterOf r b′ t k s ≡ effect h m (cond (eqb (lowest tests) 0) (Changed then u) (Turned (lowest tests) u))
-  changed h then tests u l b′ r L K = go (ℕ-discrete (lowest tests) 0)
+      afterOf r b′ t k s ≡ effect h m (onTested (Changed then u) (λ n. Refused n u) (tested tests))
+  changed h then tests u l b′ r L K = go (tested tests) (L .said) (L .held)
     where
-      by : (v : Bool) → eqb (lowest tests) 0 ≡ v → effect h m (cond v (Changed then u) (Turned (lowest tests) u)) ≡ effect h m (cond (eqb (lowest tests) 0) (Changed then u) (Turned (lowest tests) u))
-      by v e = ap (λ x. effect h m (cond x (Changed then u) (Turned (lowest tests) u))) (sym e)
-
-      go : Dec (lowest tests ≡ 0) → afterOf r b′ t k s ≡ effect h m (cond (eqb (lowest tests) 0) (Changed then u) (Turned (lowest tests) u))
-      go (yes e) =
-          let w = K .done (L .number ∙ e) in
-          parts (w .0) (K .bytes) (w .1 ∙ ap (λ x. encode x ++ drop SIZE b) (L .accepted e)) refl refl refl ∙ by true (eq-eqb (lowest tests) 0 e)
-      go (no n) =
-          let w = K .refused (λ e. n (sym (L .number) ∙ e)) in
-          parts (w .0 ∙ ap Answer.Refused (L .number)) (K .bytes) (w .1) refl refl refl ∙ by false (ne-eqb (lowest tests) 0 n)
+      go : (v : Tested) → l .tested ≡ v → heldOf (l .state) ≡ onTested then (λ n. h) v → afterOf r b′ t k s ≡ effect h m (onTested (Changed then u) (λ n. Refused n u) v)
+      go Tested.Passed e f =
+          let kept : List ℕ = encode (heldOf (l .state)) ++ drop SIZE b in
+          parts (K .said ∙ ap (onTested Answer.Done Answer.Refused) e) (K .bytes)
+          (K .block ∙ ap (onTested kept (λ n. b)) e ∙ ap (λ (x : Held). encode x ++ drop SIZE b) f) refl refl refl
+      go (Tested.Refused n) e f =
+          let kept : List ℕ = encode (heldOf (l .state)) ++ drop SIZE b in
+          parts (K .said ∙ ap (onTested Answer.Done Answer.Refused) e) (K .bytes) (K .block ∙ ap (onTested kept (λ n. b)) e) refl refl refl
 
   -- a question
   pub questioned :
-      (h : Held) (q : Question) (u : ℕ) (t′ k′ : List ℕ) (s′ : List ℤ) (a : Answer) → Asked-as h q t k t′ k′ a → s′ ≡ spansAfter (answer h q) s →
+      (h : Held) (q : Question) (u : ℕ) (t′ k′ : List ℕ) (s′ : List ℤ) (a : Answer) → Answered-as h q t k s t′ k′ s′ a →
       after a u (lent b t′ k′ s′) ≡ effect h m (Asked q u)
-  questioned h q u t′ k′ s′ a A e = parts (A .answer) refl refl (A .tables .label-table) (A .tables .link-table) e ∙ sym (replied-is h m u (answer h q))
+  questioned h q u t′ k′ s′ a A =
+      parts (A .said) refl refl (A .tables .label-table) (A .tables .link-table) (A .buffer) ∙ sym (replied-is h m u (answer h q))
 
   -- ---- lent memory
 
-  abbrev tested : Outcome → Bool → Bool → After
-  tested o short whole =
-      let n : ℕ = cond short 1 (cond (not whole) 2 0) in
-      cond (eqb n 0) (effect (readHeld b) m o) (after (Answer.Refused n) 0 m)
+  -- what is asked of it, by what its tests came to
+  module _ (r : Lent) (L : Lent-as b (length t) (length k) (length s) r) (o : Outcome) where
+    pub lent-passed : r .tested ≡ Tested.Passed → onLent m o ≡ effect (readHeld b) m o
+    lent-passed e = ap (onTested (effect (readHeld b) m o) (λ n. after (Answer.Refused n) 0 m)) (sym (L .said) ∙ e)
 
-  pub too-short : (o : Outcome) → isShort (length b) (length t) (length k) (length s) ≡ true → onLent m o ≡ after (Answer.Refused 1) 0 m
-  too-short o e = ap (λ v. tested o v (good b)) e
-
-  pub not-good : (o : Outcome) → isShort (length b) (length t) (length k) (length s) ≡ false → good b ≡ false → onLent m o ≡ after (Answer.Refused 2) 0 m
-  not-good o e g = ap (λ v. tested o v (good b)) e ∙ ap (λ v. tested o false v) g
-
-  pub all-good : (o : Outcome) → isShort (length b) (length t) (length k) (length s) ≡ false → good b ≡ true → onLent m o ≡ effect (readHeld b) m o
-  all-good o e g = ap (λ v. tested o v (good b)) e ∙ ap (λ v. tested o false v) g
-
-  -- a record, and a question beside the records, by what was read
-  pub by-parse :
-      (x : List ℕ) (p : Parsed) → isShort (length b) (length t) (length k) (length s) ≡ false → good b ≡ true → parse x ≡ p →
-      call m x ≡ effect (readHeld b) m (judged (readHeld b) p)
-  unfolding call
-  by-parse x p e g d = all-good (judged (readHeld b) (parse x)) e g ∙ ap (λ y. effect (readHeld b) m (judged (readHeld b) y)) d
-
-  pub by-decoded :
-      (a A : ℕ) (x : Decoded) → isShort (length b) (length t) (length k) (length s) ≡ false → good b ≡ true → spansOf a A ≡ x →
-      spanCall m a A ≡ effect (readHeld b) m (judged (readHeld b) (withoutBytes x))
-  unfolding spanCall
-  by-decoded a A x e g d = all-good (judged (readHeld b) (withoutBytes (spansOf a A))) e g ∙ ap (λ y. effect (readHeld b) m (judged (readHeld b) (withoutBytes y))) d
+    pub lent-refused : (n : ℕ) → r .tested ≡ Tested.Refused n → onLent m o ≡ after (Answer.Refused n) 0 m
+    lent-refused n e = ap (onTested (effect (readHeld b) m o) (λ n. after (Answer.Refused n) 0 m)) (sym (L .said) ∙ e)
 
   -- the work of a command, by which it is
-  pub as-command : (h : Held) (u : ℕ) {x : After} (c d : Command) → c ≡ d → x ≡ effect h m (judged h (Parsed.Command d u)) → x ≡ effect h m (judged h (Parsed.Command c u))
-  as-command h u c d e f = f ∙ ap (λ y. effect h m (judged h (Parsed.Command y u))) (sym e)
+  pub as-command :
+      (h : Held) (body : List ℕ) (u : ℕ) {x : After} (c d : Command) → c ≡ d → x ≡ effect h m (judged h (Parsed.Record d body u)) →
+      x ≡ effect h m (judged h (Parsed.Record c body u))
+  as-command h body u c d e f = f ∙ ap (λ (y : Command). effect h m (judged h (Parsed.Record y body u))) (sym e)
+
+-- ---- lent memory that is long enough, and a good block
 
 -- what a good block holds is within the limits
-pub held-state : (b : List ℕ) (r : Loaded) → Loaded-as b r → r .good ≡ true → Held-state (r .state)
+held-state : (b : List ℕ) (r : Loaded) → Loaded-as b r → r .good ≡ true → Held-state (r .state)
 unfolding good
 held-state b r L e = record {
   counts = L .counts;
-  limits = subst (λ h. T (limits h)) (sym (L .held e)) (and-both (limits (readHeld b)) (sameBytes (encode (readHeld b)) (take SIZE b)) (of-true (sym (L .verdict) ∙ e)) .0);
+  limits = subst (λ (h : Held). T (limits h)) (sym (L .held e))
+      (and-both (limits (readHeld b)) (sameBytes (encode (readHeld b)) (take SIZE b)) (of-true (sym (L .verdict) ∙ e)) .0);
 }
 
--- a span question, by whether it names an item and a label
-abbrev decodedIf : ℕ → ℕ → Bool → Decoded
-decodedIf a A v = let n : ℕ = cond (not v) 6 0 in cond (eqb n 0) (Decoded.Command (Command.Spans a A)) (Decoded.Refused n)
+clash : {A : Type 0} (n : ℕ) → Tested.Refused n ≡ Tested.Passed → A
+clash n e = let z : _≡_ {A = ℕ} 0 1 = cc in let w : ⊥ = omega arith in absurd w
 
--- one that is a command does
-pub spans-command : (a A : ℕ) (c : Command) → spansOf a A ≡ Decoded.Command c → (spansOf a A ≡ Decoded.Command (Command.Spans a A)) × T (isStatement (Has a A))
-spans-command a A c = go (isStatement (Has a A))
+pub short-as : (b : List ℕ) (t k s : ℕ) (state : State) → isShort (length b) t k s ≡ true → Lent-as b t k s (record { tested = Tested.Refused 1; state = state })
+short-as b t k s state e = record {
+  said = sym (ap (λ (v : Bool). tested (test v 1 ∷ test (not (good b)) 2 ∷ [])) e);
+  found = λ f. clash 1 f;
+}
+
+pub loaded-as :
+    (b : List ℕ) (t k s : ℕ) (r : Loaded) → isShort (length b) t k s ≡ false → Loaded-as b r → (v : Tested) → v ≡ cond (r .good) Tested.Passed (Tested.Refused 2) →
+    Lent-as b t k s (record { tested = v; state = r .state })
+loaded-as b t k s r e L v f = go (r .good) (L .verdict) f (λ g. held-state b r L g) (λ g. L .held g)
   where
-    go : (v : Bool) → decodedIf a A v ≡ Decoded.Command c → (decodedIf a A v ≡ Decoded.Command (Command.Spans a A)) × T v
-    go true e = (refl, tt)
+    go :
+        (g : Bool) → g ≡ good b → v ≡ cond g Tested.Passed (Tested.Refused 2) → (g ≡ true → Held-state (r .state)) → (g ≡ true → heldOf (r .state) ≡ readHeld b) →
+        Lent-as b t k s (record { tested = v; state = r .state })
+    go true g f H D = record {
+      said = f ∙ sym (ap (λ (x : Bool). tested (test x 1 ∷ test (not (good b)) 2 ∷ [])) e ∙ ap (λ (x : Bool). tested (test false 1 ∷ test (not x) 2 ∷ [])) (sym g));
+      found = λ p. record { room = enough (length b) t k s e; state-held = H refl; held = D refl };
+    }
+    go false g f H D = record {
+      said = f ∙ sym (ap (λ (x : Bool). tested (test x 1 ∷ test (not (good b)) 2 ∷ [])) e ∙ ap (λ (x : Bool). tested (test false 1 ∷ test (not x) 2 ∷ [])) (sym g));
+      found = λ p. clash 2 (sym f ∙ p);
+    }
+
+-- ---- the body of a record
+
+-- the body is the part of the input behind its first four bytes
+pub body-at : (at k u : ℕ) (x : List ℕ) → Framed-in (drop at x) k u → take (at + u - (at + 4)) (drop (at + 4) x) ≡ bodyOf (drop at x)
+body-at at k u x F =
+    let e : at + u - (at + 4) ≡ lengthField (drop at x) + 2 - 4 = omega (arith, F .used) in
+    ap (λ (n : ℕ). take n (drop (at + 4) x)) e ∙ ap (take (lengthField (drop at x) + 2 - 4)) (sym (drop-drop 4 at x))
+
+pub body-allowed : (k u : ℕ) (x : List ℕ) → Framed-in x k u → T (allows (lengthsOf k) (length (bodyOf x) + 2))
+body-allowed k u x F =
+    let n : length (bodyOf x) ≡ lengthField x + 2 - 4 = length-take-le (lengthField x + 2 - 4) (drop 4 x) (omega (arith, length-drop 4 x, F .used, F .room)) in
+    let e : length (bodyOf x) + 2 ≡ lengthField x = omega (arith, F .used, F .least) in
+    subst (λ (v : ℕ). T (allows (lengthsOf k) v)) (sym e) (F .allowed)
+
+pub body-room : (at k u : ℕ) (x : List ℕ) → Framed-in (drop at x) k u → (at + 4 ≤ at + u) × (at + u ≤ length x)
+body-room at k u x F = (omega (arith, F .least), omega (arith, length-drop at x, F .room, F .least))
+
+-- ---- a question beside the records
+
+-- a question that is decoded is in range, and it is the command
+pub asked-for : (h : Held) (q : Question) (c : Command) → asQuestion (h .settings) q ≡ Decoded.Command c → (T (isQuestion q)) × (asQuestion (h .settings) q ≡ Decoded.Command (Command.Ask q))
+asked-for h q c = go (isQuestion q)
+  where
+    given : Bool → Decoded
+    given v = onTested (Decoded.Command (Command.Ask q)) Decoded.Refused (tested (test (not v) 6 ∷ []))
+
+    go : (v : Bool) → given v ≡ Decoded.Command c → T v × (given v ≡ Decoded.Command (Command.Ask q))
+    go true e = (tt, refl)
     go false e = let z : _≡_ {A = ℕ} 0 1 = cc in let w : ⊥ = omega arith in absurd w

@@ -1,26 +1,27 @@
 -- The record call, whole: from what is lent and the bytes left to the answer, the bytes used and what is lent afterwards.
-use mathlib.Core.Bool.{Bool, not, cond, _||_}
+use mathlib.Core.Bool.{Bool, not, _||_}
 use mathlib.Core.List.{List, [], _∷_, _++_}
-use Prim.Native.Nat.{ℕ, _+_}
-use lib.Dec.{eqb, ltb}
+use Prim.Native.Nat.{ℕ}
+use lib.Dec.{ltb}
 use lib.IntN.{ℤ}
 use lib.ListN.{length, drop}
 use Rattle.terms.specs.declared.Answer.{Answer}
 use Rattle.terms.specs.declared.Answer.the-variants as Answer
+use Rattle.terms.specs.declared.Question.{Question}
+use Rattle.terms.specs.declared.Question.the-variants as Question
+use Rattle.terms.specs.Limits.{LABEL-ENTRIES, LINK-ENTRIES, SPAN-NUMBERS}
 use Rattle.terms.specs.Held.{Held}
-use Rattle.terms.specs.Refusals.{Test, test, lowest}
+use Rattle.terms.specs.Refusals.{Test, test, tested, onTested}
 use Rattle.state.specs.Changes.{ruleTests, putTests, takeTests, addRule, putMark, takeMark, emptyHeld}
 use Rattle.block.specs.Block.{SIZE, encode, readHeld, good}
 use Rattle.records.specs.declared.Command.{Command}
 use Rattle.records.specs.declared.Command.the-variants as Command
-use Rattle.records.specs.declared.Decoded.{Decoded}
-use Rattle.records.specs.declared.Decoded.the-variants as Decoded
-use Rattle.records.specs.declared.Parsed.{Parsed}
-use Rattle.records.specs.declared.Parsed.the-variants as Parsed
-use Rattle.records.specs.Records.{parse, spansOf}
+use Rattle.records.specs.Parsed.{Parsed}
+use Rattle.records.specs.Parsed as Parsed
+use Rattle.records.specs.Records.{asQuestion, parsedBody, parse}
 use Rattle.tables.specs.Tables.{labelTable, linkTable}
 use Rattle.spans.specs.Runs.{flat}
-use Rattle.decide.specs.Decide.{Question, Ask, SpansOf, Yes, No, Spans, Reply, Contradiction, Answered, answer}
+use Rattle.decide.specs.Decide.{Yes, No, Spans, Reply, Contradiction, Answered, answer}
 
 -- ---- what is lent, and what a call gives back
 
@@ -43,9 +44,8 @@ after a u m = record { answer = a; used = u; buffers = m }
 
 -- ---- 01, Where a record is turned away: lent memory
 
--- 01, State and tables: 3,088 numbers, 49,408 bytes, 194 numbers
 abbrev pub isShort : ℕ → ℕ → ℕ → ℕ → Bool
-isShort b t k s = ltb b SIZE || (ltb t 3088 || (ltb k 49408 || ltb s 194))
+isShort b t k s = ltb b SIZE || (ltb t LABEL-ENTRIES || (ltb k LINK-ENTRIES || ltb s SPAN-NUMBERS))
 
 abbrev pub short : Buffers → Bool
 short m = isShort (length (m .block)) (length (m .labels)) (length (m .links)) (length (m .spans))
@@ -53,43 +53,41 @@ short m = isShort (length (m .block)) (length (m .labels)) (length (m .links)) (
 abbrev pub lentTests : Buffers → List Test
 lentTests m = test (short m) 1 ∷ test (not (good (m .block))) 2 ∷ []
 
--- ---- what a record comes to, with these rules and marks held
+-- ---- what a record comes to, with these rules, marks and settings held
 
--- turned away with a number; nothing left; other lists; a question; with the bytes used
+-- refused with a number; nothing left; something else held; a question; with the bytes used
 pub data Outcome : Type 0 where
-  Turned : ℕ → ℕ → Outcome
-  Over : Outcome
+  Refused : ℕ → ℕ → Outcome
+  Ended : Outcome
   Changed : Held → ℕ → Outcome
   Asked : Question → ℕ → Outcome
 
--- 01, Where a record is turned away: lists
-abbrev pub listTests : Held → Command → List Test
-listTests h Command.Reset = []
-listTests h (Command.Add ρ) = ruleTests h ρ
-listTests h (Command.Put m) = putTests h m
-listTests h (Command.Take m) = takeTests h m
-listTests h (Command.Ask x i) = []
-listTests h (Command.Spans a A) = []
+-- 01, Where a record is turned away: lists. A command is judged with its body
+abbrev pub listTests : Held → Command → List ℕ → List Test
+listTests h Command.Reset b = []
+listTests h (Command.Add ρ) b = ruleTests h ρ
+listTests h (Command.Put m) b = putTests h m
+listTests h (Command.Take m) b = takeTests h m
+listTests h (Command.Ask q) b = []
 
 -- 01, The book: what an accepted record does
-abbrev pub obey : Held → Command → ℕ → Outcome
-obey h Command.Reset u = Changed emptyHeld u
-obey h (Command.Add ρ) u = Changed (addRule h ρ) u
-obey h (Command.Put m) u = Changed (putMark h m) u
-obey h (Command.Take m) u = Changed (takeMark h m) u
-obey h (Command.Ask x i) u = Asked (Ask x i) u
-obey h (Command.Spans a A) u = Asked (SpansOf a A) u
+abbrev pub obey : Held → Command → List ℕ → ℕ → Outcome
+obey h Command.Reset b u = Changed emptyHeld u
+obey h (Command.Add ρ) b u = Changed (addRule h ρ) u
+obey h (Command.Put m) b u = Changed (putMark h m) u
+obey h (Command.Take m) b u = Changed (takeMark h m) u
+obey h (Command.Ask q) b u = Asked q u
 
 abbrev pub judged : Held → Parsed → Outcome
-judged h Parsed.Nothing = Over
-judged h (Parsed.Refused n u) = Turned n u
-judged h (Parsed.Command c u) = cond (eqb (lowest (listTests h c)) 0) (obey h c u) (Turned (lowest (listTests h c)) u)
+judged h Parsed.Nothing = Ended
+judged h (Parsed.Refused n u) = Refused n u
+judged h (Parsed.Record c b u) = onTested (obey h c b u) (λ n. Refused n u) (tested (listTests h c b))
 
 -- ---- what it leaves
 
 -- 01, State and tables: after a question both tables show the least collection; tails are kept
 abbrev pub filled : Held → Buffers → List ℤ → Buffers
-filled h m s = lent (m .block) (labelTable h ++ drop 3088 (m .labels)) (linkTable h ++ drop 49408 (m .links)) s
+filled h m s = lent (m .block) (labelTable h ++ drop LABEL-ENTRIES (m .labels)) (linkTable h ++ drop LINK-ENTRIES (m .links)) s
 
 -- 01, Records: only spans write the span buffer, and not on contradiction
 abbrev pub replied : Held → Buffers → ℕ → Reply → After
@@ -99,8 +97,8 @@ replied h m u (Answered No) = after Answer.No u (filled h m (m .spans))
 replied h m u (Answered (Spans rs)) = after (Answer.Spans (length rs)) u (filled h m (flat rs ++ drop (length (flat rs)) (m .spans)))
 
 abbrev pub effect : Held → Buffers → Outcome → After
-effect h m (Turned n u) = after (Answer.Refused n) u m
-effect h m Over = after Answer.End 0 m
+effect h m (Refused n u) = after (Answer.Refused n) u m
+effect h m Ended = after Answer.End 0 m
 effect h m (Changed k u) = after Answer.Done u (lent (encode k ++ drop SIZE (m .block)) (m .labels) (m .links) (m .spans))
 effect h m (Asked q u) = replied h m u (answer h q)
 
@@ -108,16 +106,20 @@ effect h m (Asked q u) = replied h m u (answer h q)
 
 -- lent memory first; then the record, or whatever else is asked
 abbrev pub onLent : Buffers → Outcome → After
-onLent m o = cond (eqb (lowest (lentTests m)) 0) (effect (readHeld (m .block)) m o) (after (Answer.Refused (lowest (lentTests m))) 0 m)
+onLent m o = onTested (effect (readHeld (m .block)) m o) (λ n. after (Answer.Refused n) 0 m) (tested (lentTests m))
 
 -- 01: one record
 unfoldable pub call : Buffers → List ℕ → After
-call m s = onLent m (judged (readHeld (m .block)) (parse s))
+call m s = let h = readHeld (m .block) in onLent m (judged h (parse (h .settings) s))
 
--- the call beside the records: item and label as numbers, answered as SPANS is; no bytes are used
-abbrev pub withoutBytes : Decoded → Parsed
-withoutBytes (Decoded.Command c) = Parsed.Command c 0
-withoutBytes (Decoded.Refused n) = Parsed.Refused n 0
-
+-- the span call beside the records: item and label as numbers, answered as SPANS is; no bytes are used
 unfoldable pub spanCall : Buffers → ℕ → ℕ → After
-spanCall m item label = onLent m (judged (readHeld (m .block)) (withoutBytes (spansOf item label)))
+spanCall m a A = let h = readHeld (m .block) in onLent m (judged h (parsedBody (asQuestion (h .settings) (Question.Spans a A)) [] 0))
+
+-- 01, The book: the calls beside the records, each with what it is asked
+pub data Beside-call : Type 0 where
+  spans-of : ℕ → ℕ → Beside-call
+
+-- and the block after one
+abbrev pub blockAfter : Beside-call → Buffers → List ℕ
+blockAfter (spans-of a A) m = spanCall m a A .buffers .block

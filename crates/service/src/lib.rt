@@ -1,30 +1,41 @@
 // The service: one record, or one question beside the records.
 ghost use mathlib.Core.Path.{_≡_};
+ghost use mathlib.Core.List.{[]};
 ghost use Prim.Native.Nat.{_+_, _≤_, _<_};
 ghost use lib.Dec.{T};
-ghost use lib.ListN.{length, drop};
-ghost use Rattle.terms.specs.Held.{isStatement};
-ghost use Rattle.terms.specs.declared.Atom.the-variants.{Has};
+ghost use lib.ListN.{length, take, drop};
+ghost use Rattle.terms.specs.Limits.{CUTS, LABEL-ENTRIES, LINK-ENTRIES};
 ghost use Rattle.terms.specs.declared.Answer.the-variants as Answer;
 ghost use Rattle.state.specs.State.{heldOf, Counts-in};
+ghost use Rattle.block.specs.Block.{SIZE};
+ghost use Rattle.records.specs.Parsed as Parsed;
+ghost use Rattle.records.specs.Records.{allows, lengthsOf, asQuestion, decodeBody, parsedBody, parse};
 ghost use Rattle.records.specs.Proper.{Proper};
-ghost use Rattle.records.specs.declared.Parsed.the-variants as Parsed;
-ghost use Rattle.decide.specs.Decide.{Ask, SpansOf};
-ghost use Rattle.tables.specs.Seeded.{Filled};
+ghost use Rattle.tables.specs.Seeded.{Tables-derived};
 ghost use Rattle.service.specs.Call.{lent, isShort, judged, effect, call, spanCall};
-ghost use Rattle.service.specs.Code.{Held-state, Asked-as, Spanned-as, Kept-as, afterOf};
+ghost use Rattle.service.specs.Code.{Enough, Held-state, Lent-as, To-read, Read-off, To-answer, Answered-as, Kept-as, afterOf};
 use records::Command;
 use records::Decoded;
-use records::Parsed;
+use records::Framed;
 use state::Listed;
 use state::State;
 use terms::Answer;
-use terms::Atom;
+use terms::CUTS;
+use terms::Question;
+use terms::Tested;
+use terms::wide;
+use verdicts::Clash;
 
 // The answer and the bytes used.
 pub struct Reply {
     pub answer: Answer,
     pub used: usize,
+}
+
+// What the tests of lent memory came to, and the state that its block holds where they pass. (A state holds arrays, so it stands beside the enum.)
+pub struct Lent {
+    pub tested: Tested,
+    pub state: State,
 }
 
 fn refused(number: u8, used: usize) -> Reply
@@ -43,87 +54,118 @@ fn is_short(block: usize, labels: usize, links: usize, spans: usize) -> bool
     if block < block::SIZE {
         return true;
     }
-    if labels < 3088 {
+    if labels < terms::LABEL_ENTRIES {
         return true;
     }
-    if links < 49408 {
+    if links < terms::LINK_ENTRIES {
         return true;
     }
-    spans < 194
+    spans < terms::SPAN_NUMBERS
+}
+
+// Lent memory, which every call is judged by first.
+fn lent_state(block: &[u8], labels: usize, links: usize, spans: usize) -> Lent
+    ensures { λ r. ⌜ Lent-as (now (block .entry)) labels links spans r ⌝ }
+{
+    if is_short(block.len(), labels, links, spans) {
+        return Lent {
+            tested: Tested::Refused(1),
+            state: State::empty(),
+        };
+    }
+    let loaded = block::load(block);
+    let state = loaded.state;
+    Lent {
+        tested: Tested::unless(loaded.good, 2),
+        state,
+    }
 }
 
 // Both tables from what is held, and its cuts.
-fn fill(state: State, labels: &mut [u64], links: &mut [u8], cuts: &mut [i32; 192]) -> usize
-    requires { ⌜ Held-state state × (3088 ≤ length (now labels)) × (49408 ≤ length (now links)) × (length (now cuts) ≡ 192) ⌝ }
-    ensures { λ r. ⌜ Filled (heldOf state) (now (labels .entry)) (now (links .entry)) (now (labels .exit)) (now (links .exit)) (now (cuts .exit)) r ⌝ }
+fn derive(state: State, labels: &mut [u64], links: &mut [u8], cuts: &mut [i32; CUTS]) -> usize
+    requires { ⌜ Held-state state × (LABEL-ENTRIES ≤ length (now labels)) × (LINK-ENTRIES ≤ length (now links)) × (length (now cuts) ≡ CUTS) ⌝ }
+    ensures { λ r. ⌜ Tables-derived (heldOf state) (now (labels .entry)) (now (links .entry)) (now (labels .exit)) (now (links .exit))
+        (now (cuts .exit)) r ⌝ }
 {
     let places = state.rules;
     let marks = state.marks;
     let n = state.rule_count;
     let count = state.mark_count;
-    tables::derive(labels, links, cuts, places, n, marks, count)
+    let settings = state.settings;
+    tables::derive(labels, links, cuts, places, n, marks, count, settings)
 }
 
-// QUERY: contradiction, yes or no.
-fn ask(state: State, labels: &mut [u64], links: &mut [u8], atom: Atom, depth: i64) -> Answer
-    requires { ⌜ Held-state state × (3088 ≤ length (now labels)) × (49408 ≤ length (now links)) × T (isStatement atom) ⌝ }
-    ensures { λ r. ⌜ Asked-as (heldOf state) (Ask atom depth) (now (labels .entry)) (now (links .entry)) (now (labels .exit)) (now (links .exit)) r ⌝ }
+// What the tables say of a question where nothing is contradictory; spans go to their buffer.
+fn read_off(
+    labels: &[u64],
+    links: &[u8],
+    spans: &mut [i32],
+    cuts: &[i32; CUTS],
+    n: usize,
+    question: Question,
+) -> Answer
+    requires { ⌜ To-read (now labels) (now links) (now spans) (now cuts) n question ⌝ }
+    ensures { λ r. ⌜ Read-off (take n (now (cuts .entry))) (now (labels .entry)) (now (links .entry)) question (now (spans .entry))
+        (now (spans .exit)) r ⌝ }
 {
-    let mut cuts = [0i32; 192];
-    let n = fill(state, labels, links, &mut cuts);
-    let item = verdicts::clash_item(labels);
-    if item < 16 {
-        return Answer::Contradiction(item as u8);
+    match question {
+        Question::Holds(atom, depth) => {
+            let p = line::interval_of(cuts, n, depth);
+            if verdicts::holds(labels, links, atom, p) {
+                return Answer::Yes;
+            }
+            Answer::No
+        }
+        Question::Spans(item, label) => {
+            let count = spans::write_spans(spans, labels, wide(item), wide(label), cuts, n);
+            Answer::Spans(count as u16)
+        }
     }
-    let p = line::interval_of(&cuts, n, depth);
-    if verdicts::holds(labels, links, atom, p) {
-        return Answer::Yes;
-    }
-    Answer::No
 }
 
-// SPANS: contradiction, or the pairs in the span buffer and their count.
-fn spans_answer(
+// Derive, then contradiction, then the answer: what every question goes through.
+fn answer(
     state: State,
     labels: &mut [u64],
     links: &mut [u8],
     spans: &mut [i32],
-    item: u8,
-    label: u8,
+    question: Question,
 ) -> Answer
-    requires { ⌜ Held-state state × (3088 ≤ length (now labels)) × (49408 ≤ length (now links)) × (194 ≤ length (now spans)) × T (isStatement (Has item label)) ⌝ }
-    ensures { λ r. ⌜ Spanned-as (heldOf state) (SpansOf item label) (now (labels .entry)) (now (links .entry)) (now (spans .entry)) (now (labels .exit)) (now (links .exit)) (now (spans .exit)) r ⌝ }
+    requires { ⌜ To-answer state (now labels) (now links) (now spans) question ⌝ }
+    ensures { λ r. ⌜ Answered-as (heldOf state) question (now (labels .entry)) (now (links .entry)) (now (spans .entry))
+        (now (labels .exit)) (now (links .exit)) (now (spans .exit)) r ⌝ }
 {
-    let mut cuts = [0i32; 192];
-    let n = fill(state, labels, links, &mut cuts);
-    let clash = verdicts::clash_item(labels);
-    if clash < 16 {
-        return Answer::Contradiction(clash as u8);
+    let mut cuts = [0i32; CUTS];
+    let n = derive(state, labels, links, &mut cuts);
+    match verdicts::clash_in(labels) {
+        Clash::Item(item) => Answer::Contradiction(item),
+        Clash::Nowhere => read_off(labels, links, spans, &cuts, n, question),
     }
-    let count = spans::write_spans(spans, labels, item as usize, label as usize, &cuts, n);
-    Answer::Spans(count as u16)
 }
 
 // A list operation: refused, or stored.
 fn keep(block: &mut [u8], listed: Listed, used: usize) -> Reply
-    requires { ⌜ Counts-in (listed .state) × (3104 ≤ length (now block)) ⌝ }
+    requires { ⌜ Counts-in (listed .state) × (SIZE ≤ length (now block)) ⌝ }
     ensures { λ r. ⌜ Kept-as listed used (now (block .entry)) (now (block .exit)) r ⌝ }
 {
-    let number = listed.number;
-    if number == 0 {
-        let state = listed.state;
-        block::store(block, state);
-        return Reply {
-            answer: Answer::Done,
-            used,
-        };
+    let tested = listed.tested;
+    let state = listed.state;
+    match tested {
+        Tested::Passed => {
+            block::store(block, state);
+            Reply {
+                answer: Answer::Done,
+                used,
+            }
+        }
+        Tested::Refused(number) => refused(number, used),
     }
-    refused(number, used)
 }
 
-// The work of a command on what is held.
+// The work of a command, with its body beside it, on what is held.
 fn work(
     command: Command,
+    body: &[u8],
     state: State,
     block: &mut [u8],
     labels: &mut [u64],
@@ -131,8 +173,10 @@ fn work(
     spans: &mut [i32],
     used: usize,
 ) -> Reply
-    requires { ⌜ Held-state state × T (Proper command) × (3104 ≤ length (now block)) × (3088 ≤ length (now labels)) × (49408 ≤ length (now links)) × (194 ≤ length (now spans)) ⌝ }
-    ensures { λ r. ⌜ afterOf r (now (block .exit)) (now (labels .exit)) (now (links .exit)) (now (spans .exit)) ≡ effect (heldOf state) (lent (now (block .entry)) (now (labels .entry)) (now (links .entry)) (now (spans .entry))) (judged (heldOf state) (Parsed.Command command used)) ⌝ }
+    requires { ⌜ Held-state state × T (Proper command) × Enough (length (now block)) (length (now labels)) (length (now links)) (length (now spans)) ⌝ }
+    ensures { λ r. ⌜ afterOf r (now (block .exit)) (now (labels .exit)) (now (links .exit)) (now (spans .exit))
+        ≡ effect (heldOf state) (lent (now (block .entry)) (now (labels .entry)) (now (links .entry)) (now (spans .entry)))
+        (judged (heldOf state) (Parsed.Record command (now (body .entry)) used)) ⌝ }
 {
     match command {
         Command::Reset => {
@@ -145,14 +189,68 @@ fn work(
         Command::Add(rule) => keep(block, state.with_rule(rule), used),
         Command::Put(mark) => keep(block, state.put(mark), used),
         Command::Take(mark) => keep(block, state.take(mark), used),
-        Command::Ask(atom, depth) => {
-            let answer = ask(state, labels, links, atom, depth);
+        Command::Ask(question) => {
+            let answer = answer(state, labels, links, spans, question);
             Reply { answer, used }
         }
-        Command::Spans(item, label) => {
-            let answer = spans_answer(state, labels, links, spans, item, label);
-            Reply { answer, used }
-        }
+    }
+}
+
+// A record that has a frame: its body is decoded under the settings.
+fn obey(
+    kind: u16,
+    body: &[u8],
+    state: State,
+    block: &mut [u8],
+    labels: &mut [u64],
+    links: &mut [u8],
+    spans: &mut [i32],
+    used: usize,
+) -> Reply
+    requires { ⌜ Held-state state × T (allows (lengthsOf kind) (length (now body) + 2))
+        × Enough (length (now block)) (length (now labels)) (length (now links)) (length (now spans)) ⌝ }
+    ensures { λ r. ⌜ afterOf r (now (block .exit)) (now (labels .exit)) (now (links .exit)) (now (spans .exit))
+        ≡ effect (heldOf state) (lent (now (block .entry)) (now (labels .entry)) (now (links .entry)) (now (spans .entry)))
+        (judged (heldOf state) (parsedBody (decodeBody (heldOf state .settings) kind (now (body .entry))) (now (body .entry)) used)) ⌝ }
+{
+    let settings = state.settings;
+    match records::decode(settings, kind, body) {
+        Decoded::Command(command) => work(command, body, state, block, labels, links, spans, used),
+        Decoded::Refused(number) => refused(number, used),
+    }
+}
+
+// What is left of the input from a place on, with what is held.
+fn next(
+    state: State,
+    block: &mut [u8],
+    labels: &mut [u64],
+    links: &mut [u8],
+    spans: &mut [i32],
+    input: &[u8],
+    at: usize,
+) -> Reply
+    requires { ⌜ Held-state state × Enough (length (now block)) (length (now labels)) (length (now links)) (length (now spans)) ⌝ }
+    ensures { λ r. ⌜ afterOf r (now (block .exit)) (now (labels .exit)) (now (links .exit)) (now (spans .exit))
+        ≡ effect (heldOf state) (lent (now (block .entry)) (now (labels .entry)) (now (links .entry)) (now (spans .entry)))
+        (judged (heldOf state) (parse (heldOf state .settings) (drop at (now (input .entry))))) ⌝ }
+{
+    match reader::read(input, at) {
+        Framed::Nothing => Reply {
+            answer: Answer::End,
+            used: 0,
+        },
+        Framed::Refused(number, used) => refused(number, used),
+        Framed::Record(kind, used) => obey(
+            kind,
+            &input[at + 4..at + used],
+            state,
+            block,
+            labels,
+            links,
+            spans,
+            used,
+        ),
     }
 }
 
@@ -165,32 +263,16 @@ pub fn record_at(
     input: &[u8],
     at: usize,
 ) -> Reply
-    ensures { λ r. ⌜ afterOf r (now (block .exit)) (now (labels .exit)) (now (links .exit)) (now (spans .exit)) ≡ call (lent (now (block .entry)) (now (labels .entry)) (now (links .entry)) (now (spans .entry))) (drop at (now (input .entry))) ⌝ }
+    ensures { λ r. ⌜ afterOf r (now (block .exit)) (now (labels .exit)) (now (links .exit)) (now (spans .exit))
+        ≡ call (lent (now (block .entry)) (now (labels .entry)) (now (links .entry)) (now (spans .entry))) (drop at (now (input .entry))) ⌝ }
 {
-    if is_short(block.len(), labels.len(), links.len(), spans.len()) {
-        return refused(1, 0);
+    let found = lent_state(block, labels.len(), links.len(), spans.len());
+    let tested = found.tested;
+    let state = found.state;
+    match tested {
+        Tested::Passed => next(state, block, labels, links, spans, input, at),
+        Tested::Refused(number) => refused(number, 0),
     }
-    let loaded = block::load(block);
-    if loaded.good {
-        let state = loaded.state;
-        return match reader::read(input, at) {
-            Parsed::Nothing => Reply {
-                answer: Answer::End,
-                used: 0,
-            },
-            Parsed::Refused(number, used) => refused(number, used),
-            Parsed::Command(command, used) => work(
-                command,
-                state,
-                block,
-                labels,
-                links,
-                spans,
-                used,
-            ),
-        };
-    }
-    refused(2, 0)
 }
 
 // One record from the start of the input.
@@ -201,9 +283,34 @@ pub fn record(
     spans: &mut [i32],
     input: &[u8],
 ) -> Reply
-    ensures { λ r. ⌜ afterOf r (now (block .exit)) (now (labels .exit)) (now (links .exit)) (now (spans .exit)) ≡ call (lent (now (block .entry)) (now (labels .entry)) (now (links .entry)) (now (spans .entry))) (now (input .entry)) ⌝ }
+    ensures { λ r. ⌜ afterOf r (now (block .exit)) (now (labels .exit)) (now (links .exit)) (now (spans .exit))
+        ≡ call (lent (now (block .entry)) (now (labels .entry)) (now (links .entry)) (now (spans .entry))) (now (input .entry)) ⌝ }
 {
     record_at(block, labels, links, spans, input, 0)
+}
+
+// A question beside the records, with what the block holds: judged as a record's is, and no bytes are used.
+fn aside(
+    state: State,
+    block: &[u8],
+    labels: &mut [u64],
+    links: &mut [u8],
+    spans: &mut [i32],
+    question: Question,
+) -> Reply
+    requires { ⌜ Held-state state × Enough (length (now block)) (length (now labels)) (length (now links)) (length (now spans)) ⌝ }
+    ensures { λ r. ⌜ afterOf r (now (block .entry)) (now (labels .exit)) (now (links .exit)) (now (spans .exit))
+        ≡ effect (heldOf state) (lent (now (block .entry)) (now (labels .entry)) (now (links .entry)) (now (spans .entry)))
+        (judged (heldOf state) (parsedBody (asQuestion (heldOf state .settings) question) [] 0)) ⌝ }
+{
+    let settings = state.settings;
+    match records::ask(settings, question) {
+        Decoded::Command(_) => {
+            let answer = answer(state, labels, links, spans, question);
+            Reply { answer, used: 0 }
+        }
+        Decoded::Refused(number) => refused(number, 0),
+    }
 }
 
 // The spans of a label of an item, asked beside the records: the block is read alone.
@@ -215,21 +322,14 @@ pub fn spans_of(
     item: u8,
     label: u8,
 ) -> Reply
-    ensures { λ r. ⌜ afterOf r (now (block .entry)) (now (labels .exit)) (now (links .exit)) (now (spans .exit)) ≡ spanCall (lent (now (block .entry)) (now (labels .entry)) (now (links .entry)) (now (spans .entry))) item label ⌝ }
+    ensures { λ r. ⌜ afterOf r (now (block .entry)) (now (labels .exit)) (now (links .exit)) (now (spans .exit))
+        ≡ spanCall (lent (now (block .entry)) (now (labels .entry)) (now (links .entry)) (now (spans .entry))) item label ⌝ }
 {
-    if is_short(block.len(), labels.len(), links.len(), spans.len()) {
-        return refused(1, 0);
+    let found = lent_state(block, labels.len(), links.len(), spans.len());
+    let tested = found.tested;
+    let state = found.state;
+    match tested {
+        Tested::Passed => aside(state, block, labels, links, spans, Question::Spans(item, label)),
+        Tested::Refused(number) => refused(number, 0),
     }
-    let loaded = block::load(block);
-    if loaded.good {
-        let state = loaded.state;
-        return match records::spans_of(item, label) {
-            Decoded::Refused(number) => refused(number, 0),
-            Decoded::Command(_) => {
-                let answer = spans_answer(state, labels, links, spans, item, label);
-                Reply { answer, used: 0 }
-            }
-        };
-    }
-    refused(2, 0)
 }

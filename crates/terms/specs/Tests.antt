@@ -34,3 +34,7 @@ of-true e = subst T (sym e) tt
 pub false-of : (b : Bool) → (T b → ⊥) → b ≡ false
 false-of true t = absurd (t tt)
 false-of false t = refl
+
+pub neither : (a b : Bool) → (a || b) ≡ false → (a ≡ false) × (b ≡ false)
+neither true b e = absurd (subst T e tt)
+neither false b e = (refl, e)

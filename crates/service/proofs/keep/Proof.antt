@@ -1,23 +1,42 @@
--- The number decides: 0 is stored and done, another is refused and the block is as it was.
+-- What the tests came to decides: stored and done, or refused and the block as it was.
 use mathlib.Core.Path.{refl}
 use borrow.Author.Needs.{needs}
 use Rattle.service.proofs.keep.Statement.{statement}
 use Rattle.service.proofs.keep.Tie as tie
 
+enum-told : tie.Need-enum-told
+enum-told c = search needs
+
 store-requires : tie.Need-store-requires
 store-requires c κs = search needs
+
+enum-known-tested : tie.Need-enum-known-tested
+enum-known-tested c = search needs
+
+refused-requires : tie.Need-refused-requires
+refused-requires c κs = search needs
 
 same-length : tie.Need-same-length
 same-length c = search needs
 
 returns : tie.Need-returns
-returns c = record { done = λ e. (refl, c .before .before .store .ensures); refused = λ n. absurd (n (c .before .before .before .before .before .if1 .taken)); bytes = refl }
-
-refused-requires : tie.Need-refused-requires
-refused-requires c κs = search needs
+returns c =
+    let e = c .before .before .before .before .enum-told .given .1 in
+    record { said = rw e; block = rw e (c .before .before .store .ensures); bytes = refl }
 
 returns-2 : tie.Need-returns-2
-returns-2 c = record { done = λ e. absurd (c .before .if1 .left e); refused = λ n. (c .refused .ensures .0, refl); bytes = c .refused .ensures .1 }
+returns-2 c =
+    let e = c .before .before .tested .given .1 in
+    record { said = rw e (c .refused .ensures .0); block = rw e; bytes = c .refused .ensures .1 }
 
 pub keep-spec : {M : Type 1} → statement M
-keep-spec = tie.close (tie.spec store-requires same-length returns refused-requires returns-2)
+keep-spec =
+    tie.close
+    (tie.spec
+    enum-told
+    store-requires
+    enum-known-tested
+    refused-requires
+    same-length
+    returns
+    returns-2)

@@ -1,16 +1,13 @@
 -- By the command: what its call leaves is its effect.
-use mathlib.Core.Path.{refl, sym, ap, subst, _∙_}
+use mathlib.Core.Path.{refl, ap, subst, _∙_}
 use mathlib.Core.List.{_++_}
 use lib.Dec.{T}
 use lib.ListN.{drop}
-use mir.Syntax.{w64}
-use mir.Val.{SFits}
-use mir.Facts.{toZ-ofZ}
+use Rattle.terms.specs.Held.{Held}
 use Rattle.state.specs.State.{heldOf}
 use Rattle.block.specs.Block.{SIZE, encode}
+use Rattle.records.specs.declared.Command.{Command}
 use Rattle.records.specs.Proper.{Proper}
-use Rattle.decide.specs.Decide.{Ask, SpansOf}
-use Rattle.service.specs.Code.{ask-writes-none}
 use Rattle.service.proofs.Lending.{parts, changed, questioned, as-command}
 use borrow.Author.Needs.{needs}
 use Rattle.service.proofs.work.Statement.{statement}
@@ -55,35 +52,35 @@ keep-requires-3 c κs = search needs
 enum-known-command-4 : tie.Need-enum-known-command-4
 enum-known-command-4 c = search needs
 
-ask-requires : tie.Need-ask-requires
-ask-requires c κs =
-    let start = c .before .before .before .before .before .before .before .before in
-    (start .pre .0, start .pre .3, start .pre .4, subst (λ x. T (Proper x)) (c .before .before .before .command4 .given .1) (start .pre .1))
-
-enum-known-command-5 : tie.Need-enum-known-command-5
-enum-known-command-5 c = search needs
-
-spans-answer-requires : tie.Need-spans-answer-requires
-spans-answer-requires c κs =
-    let start = c .before .before .before .before .before .before .before .before .before in
-    (start .pre .0, start .pre .3, start .pre .4, start .pre .5, subst (λ x. T (Proper x)) (c .before .before .before .before .command5 .given .1) (start .pre .1))
+answer-requires : tie.Need-answer-requires
+answer-requires c κs =
+    let start = c .before .before .before .before .before .before .before .before .before .before in
+    let room = start .pre .2 in
+    record {
+      held-state = start .pre .0;
+      labels-long = room .labels;
+      links-long = room .links;
+      spans-long = room .spans;
+      named = subst (λ (x : Command). T (Proper x)) (c .before .before .before .before .command4 .given .1) (start .pre .1);
+    }
 
 same-length : tie.Need-same-length
 same-length c = search needs
 
 returns : tie.Need-returns
 returns c =
-    let start = c .before .before .before .before .before .before .before .before .before .before in
-    as-command (start .args .block .now) (start .args .labels .now) (start .args .links .now) (start .args .spans .now) (heldOf (start .args .state)) (start .args .used) (start .args .command) _ (c .before .before .before .before .before .enum-told .given .1)
-    (parts refl refl (c .before .before .store .ensures ∙ ap (λ x. encode x ++ drop SIZE (start .args .block .now)) (c .before .before .before .empty .ensures .held)) refl refl refl)
+    let start = c .before .before .before .before .before .before .before .before .before .before .before in
+    let emptied = ap (λ (x : Held). encode x ++ drop SIZE (start .args .block .now)) (c .before .before .before .empty .ensures .held) in
+    as-command (start .args .block .now) (start .args .labels .now) (start .args .links .now) (start .args .spans .now) (heldOf (start .args .state)) (start .args .body .now) (start .args .used) (start .args .command) _ (c .before .before .before .before .before .enum-told .given .1)
+    (parts refl refl (c .before .before .store .ensures ∙ emptied) refl refl refl)
 
 same-length-2 : tie.Need-same-length-2
 same-length-2 c = search needs
 
 returns-2 : tie.Need-returns-2
 returns-2 c =
-    let start = c .before .before .before .before .before .before .before .before .before .before .before in
-    as-command (start .args .block .now) (start .args .labels .now) (start .args .links .now) (start .args .spans .now) (heldOf (start .args .state)) (start .args .used) (start .args .command) _ (c .before .before .before .before .before .before .command .given .1)
+    let start = c .before .before .before .before .before .before .before .before .before .before .before .before in
+    as-command (start .args .block .now) (start .args .labels .now) (start .args .links .now) (start .args .spans .now) (heldOf (start .args .state)) (start .args .body .now) (start .args .used) (start .args .command) _ (c .before .before .before .before .before .before .command .given .1)
     (changed (start .args .block .now) (start .args .labels .now) (start .args .links .now) (start .args .spans .now) (heldOf (start .args .state)) _ _ (start .args .used) _ _ _ (c .before .before .before .with-rule .ensures) (c .before .before .keep .ensures))
 
 same-length-3 : tie.Need-same-length-3
@@ -91,8 +88,8 @@ same-length-3 c = search needs
 
 returns-3 : tie.Need-returns-3
 returns-3 c =
-    let start = c .before .before .before .before .before .before .before .before .before .before .before in
-    as-command (start .args .block .now) (start .args .labels .now) (start .args .links .now) (start .args .spans .now) (heldOf (start .args .state)) (start .args .used) (start .args .command) _ (c .before .before .before .before .before .before .command2 .given .1)
+    let start = c .before .before .before .before .before .before .before .before .before .before .before .before in
+    as-command (start .args .block .now) (start .args .labels .now) (start .args .links .now) (start .args .spans .now) (heldOf (start .args .state)) (start .args .body .now) (start .args .used) (start .args .command) _ (c .before .before .before .before .before .before .command2 .given .1)
     (changed (start .args .block .now) (start .args .labels .now) (start .args .links .now) (start .args .spans .now) (heldOf (start .args .state)) _ _ (start .args .used) _ _ _ (c .before .before .before .put .ensures) (c .before .before .keep2 .ensures))
 
 same-length-4 : tie.Need-same-length-4
@@ -100,8 +97,8 @@ same-length-4 c = search needs
 
 returns-4 : tie.Need-returns-4
 returns-4 c =
-    let start = c .before .before .before .before .before .before .before .before .before .before .before in
-    as-command (start .args .block .now) (start .args .labels .now) (start .args .links .now) (start .args .spans .now) (heldOf (start .args .state)) (start .args .used) (start .args .command) _ (c .before .before .before .before .before .before .command3 .given .1)
+    let start = c .before .before .before .before .before .before .before .before .before .before .before .before in
+    as-command (start .args .block .now) (start .args .labels .now) (start .args .links .now) (start .args .spans .now) (heldOf (start .args .state)) (start .args .body .now) (start .args .used) (start .args .command) _ (c .before .before .before .before .before .before .command3 .given .1)
     (changed (start .args .block .now) (start .args .labels .now) (start .args .links .now) (start .args .spans .now) (heldOf (start .args .state)) _ _ (start .args .used) _ _ _ (c .before .before .before .take .ensures) (c .before .before .keep3 .ensures))
 
 same-length-5 : tie.Need-same-length-5
@@ -110,28 +107,14 @@ same-length-5 c = search needs
 same-length-6 : tie.Need-same-length-6
 same-length-6 c = search needs
 
-returns-5 : tie.Need-returns-5
-returns-5 c =
-    let start = c .before .before .before .before .before .before .before .before .before .before .before .before .before in
-    let named = c .before .before .before .before .before .before .before .before .command4 .given in
-    let f : SFits w64 (named .0 .1 .0) = search needs in
-    as-command (start .args .block .now) (start .args .labels .now) (start .args .links .now) (start .args .spans .now) (heldOf (start .args .state)) (start .args .used) (start .args .command) _ (named .1)
-    (questioned (start .args .block .now) (start .args .labels .now) (start .args .links .now) (start .args .spans .now) (heldOf (start .args .state)) (Ask (named .0 .0) (named .0 .1 .0)) (start .args .used) _ _ _ _ (rw (toZ-ofZ f) at (c .before .before .before .before .ask .ensures)) (sym (ask-writes-none (heldOf (start .args .state)) (named .0 .0) (named .0 .1 .0) (start .args .spans .now))))
-
 same-length-7 : tie.Need-same-length-7
 same-length-7 c = search needs
 
-same-length-8 : tie.Need-same-length-8
-same-length-8 c = search needs
-
-same-length-9 : tie.Need-same-length-9
-same-length-9 c = search needs
-
-returns-6 : tie.Need-returns-6
-returns-6 c =
-    let start = c .before .before .before .before .before .before .before .before .before .before .before .before .before .before .before in
-    as-command (start .args .block .now) (start .args .labels .now) (start .args .links .now) (start .args .spans .now) (heldOf (start .args .state)) (start .args .used) (start .args .command) _ (c .before .before .before .before .before .before .before .before .before .before .command5 .given .1)
-    (questioned (start .args .block .now) (start .args .labels .now) (start .args .links .now) (start .args .spans .now) (heldOf (start .args .state)) (SpansOf _ _) (start .args .used) _ _ _ _ (c .before .before .before .before .before .spans-answer .ensures .asked) (c .before .before .before .before .before .spans-answer .ensures .buffer))
+returns-5 : tie.Need-returns-5
+returns-5 c =
+    let start = c .before .before .before .before .before .before .before .before .before .before .before .before .before .before .before .before in
+    as-command (start .args .block .now) (start .args .labels .now) (start .args .links .now) (start .args .spans .now) (heldOf (start .args .state)) (start .args .body .now) (start .args .used) (start .args .command) _ (c .before .before .before .before .before .before .before .before .before .before .command4 .given .1)
+    (questioned (start .args .block .now) (start .args .labels .now) (start .args .links .now) (start .args .spans .now) (heldOf (start .args .state)) _ (start .args .used) _ _ _ _ (c .before .before .before .before .before .answer .ensures))
 
 pub work-spec : {M : Type 1} → statement M
 work-spec =
@@ -150,9 +133,7 @@ work-spec =
     take-requires
     keep-requires-3
     enum-known-command-4
-    ask-requires
-    enum-known-command-5
-    spans-answer-requires
+    answer-requires
     same-length
     returns
     same-length-2
@@ -163,8 +144,5 @@ work-spec =
     returns-4
     same-length-5
     same-length-6
-    returns-5
     same-length-7
-    same-length-8
-    same-length-9
-    returns-6)
+    returns-5)

@@ -1,0 +1,157 @@
+-- By the frame: nothing, a refusal, or a record whose body is the part of the input behind its kind.
+use mathlib.Core.Path.{refl, sym, ap, subst, _∙_}
+use mathlib.Core.List.{List}
+use Prim.Native.Nat.{ℕ, _+_}
+use native.Mathlib.Omega.{arith}
+use lib.Dec.{T}
+use lib.ListN.{length, drop}
+use Rattle.state.specs.State.{heldOf}
+use Rattle.records.specs.declared.Framed.{Framed}
+use Rattle.records.specs.Records.{allows, lengthsOf, decodeBody, parsedBody, parsedFrame, parse}
+use Rattle.records.specs.Frame.{framed-in}
+use Rattle.service.specs.Call.{lent, judged, effect}
+use Rattle.service.proofs.Lending.{parts, body-at, body-allowed, body-room}
+use borrow.Author.Needs.{needs}
+use Rattle.service.proofs.next.Statement.{statement}
+use Rattle.service.proofs.next.Tie as tie
+
+read-requires : tie.Need-read-requires
+read-requires c κs = search needs
+
+enum-told : tie.Need-enum-told
+enum-told c = search needs
+
+enum-known-number : tie.Need-enum-known-number
+enum-known-number c = search needs
+
+refused-requires : tie.Need-refused-requires
+refused-requires c κs = search needs
+
+enum-known-kind : tie.Need-enum-known-kind
+enum-known-kind c = search needs
+
+add-obey : tie.Need-add-obey
+add-obey c =
+    let start = c .before .before .before .before .before .before .before .before in
+    let x = start .args .input .now in
+    let known = c .before .kind .given in
+    let F = framed-in (drop (start .args .at) x) (known .0 .0) (known .0 .1 .0) (sym (c .before .before .before .read .ensures) ∙ known .1) in
+    let room = body-room (start .args .at) (known .0 .0) (known .0 .1 .0) x F in
+    omega (arith, room .0, room .1)
+
+add-obey-2 : tie.Need-add-obey-2
+add-obey-2 c =
+    let start = c .before .before .before .before .before .before .before .before in
+    let x = start .args .input .now in
+    let known = c .before .kind .given in
+    let F = framed-in (drop (start .args .at) x) (known .0 .0) (known .0 .1 .0) (sym (c .before .before .before .read .ensures) ∙ known .1) in
+    let room = body-room (start .args .at) (known .0 .0) (known .0 .1 .0) x F in
+    omega (arith, room .0, room .1)
+
+sub-obey : tie.Need-sub-obey
+sub-obey c =
+    let start = c .before .before .before .before .before .before .before .before in
+    let x = start .args .input .now in
+    let known = c .before .kind .given in
+    let F = framed-in (drop (start .args .at) x) (known .0 .0) (known .0 .1 .0) (sym (c .before .before .before .read .ensures) ∙ known .1) in
+    let room = body-room (start .args .at) (known .0 .0) (known .0 .1 .0) x F in
+    omega (arith, room .0, room .1)
+
+part-obey-start : tie.Need-part-obey-start
+part-obey-start c =
+    let start = c .before .before .before .before .before .before .before .before in
+    let x = start .args .input .now in
+    let known = c .before .kind .given in
+    let F = framed-in (drop (start .args .at) x) (known .0 .0) (known .0 .1 .0) (sym (c .before .before .before .read .ensures) ∙ known .1) in
+    let room = body-room (start .args .at) (known .0 .0) (known .0 .1 .0) x F in
+    omega (arith, room .0, room .1)
+
+part-obey-end : tie.Need-part-obey-end
+part-obey-end c =
+    let start = c .before .before .before .before .before .before .before .before in
+    let x = start .args .input .now in
+    let known = c .before .kind .given in
+    let F = framed-in (drop (start .args .at) x) (known .0 .0) (known .0 .1 .0) (sym (c .before .before .before .read .ensures) ∙ known .1) in
+    let room = body-room (start .args .at) (known .0 .0) (known .0 .1 .0) x F in
+    omega (arith, room .0, room .1)
+
+obey-requires : tie.Need-obey-requires
+obey-requires c κs =
+    let start = c .before .before .before .before .before .before .before .before .before .before .before .before .before in
+    let x = start .args .input .now in
+    let known = c .before .before .before .before .before .before .kind .given in
+    let F = framed-in (drop (start .args .at) x) (known .0 .0) (known .0 .1 .0) (sym (c .before .before .before .before .before .before .before .before .read .ensures) ∙ known .1) in
+    let room = body-room (start .args .at) (known .0 .0) (known .0 .1 .0) x F in
+    let body = body-at (start .args .at) (known .0 .0) (known .0 .1 .0) x F in
+    let allowed = body-allowed (known .0 .0) (known .0 .1 .0) (drop (start .args .at) x) F in
+    (start .pre .0, subst (λ (v : List ℕ). T (allows (lengthsOf (known .0 .0)) (length v + 2))) (sym body) allowed, start .pre .1)
+
+returns : tie.Need-returns
+unfolding parse
+returns c =
+    let start = c .before .before .before .before .before .before .before in
+    let h = heldOf (start .args .state) in
+    let m = lent (start .args .block .now) (start .args .labels .now) (start .args .links .now) (start .args .spans .now) in
+    let s = drop (start .args .at) (start .args .input .now) in
+    ap (λ (f : Framed). effect h m (judged h (parsedFrame (h .settings) s f))) (sym (sym (c .before .before .read .ensures) ∙ c .enum-told .given .1))
+
+returns-2 : tie.Need-returns-2
+unfolding parse
+returns-2 c =
+    let start = c .before .before .before .before .before .before .before .before .before in
+    let h = heldOf (start .args .state) in
+    let m = lent (start .args .block .now) (start .args .labels .now) (start .args .links .now) (start .args .spans .now) in
+    let s = drop (start .args .at) (start .args .input .now) in
+    let said = c .refused .ensures in
+    parts (said .0) (said .1) refl refl refl refl ∙ ap (λ (f : Framed). effect h m (judged h (parsedFrame (h .settings) s f))) (sym (sym (c .before .before .before .before .read .ensures) ∙ c .before .before .number .given .1))
+
+same-length : tie.Need-same-length
+same-length c = search needs
+
+same-length-2 : tie.Need-same-length-2
+same-length-2 c = search needs
+
+same-length-3 : tie.Need-same-length-3
+same-length-3 c = search needs
+
+same-length-4 : tie.Need-same-length-4
+same-length-4 c = search needs
+
+returns-3 : tie.Need-returns-3
+unfolding parse
+returns-3 c =
+    let start = c .before .before .before .before .before .before .before .before .before .before .before .before .before .before .before .before .before .before .before .before .before in
+    let x = start .args .input .now in
+    let known = c .before .before .before .before .before .before .before .before .before .before .before .before .before .before .kind .given in
+    let F = framed-in (drop (start .args .at) x) (known .0 .0) (known .0 .1 .0) (sym (c .before .before .before .before .before .before .before .before .before .before .before .before .before .before .before .before .read .ensures) ∙ known .1) in
+    let room = body-room (start .args .at) (known .0 .0) (known .0 .1 .0) x F in
+    let h = heldOf (start .args .state) in
+    let m = lent (start .args .block .now) (start .args .labels .now) (start .args .links .now) (start .args .spans .now) in
+    let s = drop (start .args .at) (start .args .input .now) in
+    let body = body-at (start .args .at) (known .0 .0) (known .0 .1 .0) x F in
+    c .before .before .before .before .before .before .before .obey .ensures
+    ∙ ap (λ (v : List ℕ). effect h m (judged h (parsedBody (decodeBody (h .settings) (known .0 .0) v) v (known .0 .1 .0)))) body
+    ∙ ap (λ (f : Framed). effect h m (judged h (parsedFrame (h .settings) s f))) (sym (sym (c .before .before .before .before .before .before .before .before .before .before .before .before .before .before .before .before .read .ensures) ∙ known .1))
+
+pub next-spec : {M : Type 1} → statement M
+next-spec =
+    tie.close
+    (tie.spec
+    read-requires
+    enum-told
+    enum-known-number
+    refused-requires
+    enum-known-kind
+    add-obey
+    add-obey-2
+    sub-obey
+    part-obey-start
+    part-obey-end
+    obey-requires
+    returns
+    returns-2
+    same-length
+    same-length-2
+    same-length-3
+    same-length-4
+    returns-3)
