@@ -1,11 +1,11 @@
 -- The laws of `put`, `bytes` and `little`, each once for every width, by induction over the width. Assumes nothing.
 use mathlib.Core.Path.{_≡_, refl, sym, ap, _∙_, subst}
 use mathlib.Core.List.{List, [], _∷_, _++_, append-assoc}
-use Prim.Native.Nat.{ℕ, zero, suc, _+_, _-_, _*_, _/_, _%_, _^_, _≤_, _<_}
+use Prim.Native.Nat.{ℕ, zero, suc, _+_, _*_, _/_, _%_, _^_, _≤_, _<_}
 use native.Mathlib.Nat.{pow-suc, pow-succ', mul-assoc}
 use native.Mathlib.Omega.{arith}
 use lib.ListN.{length, getD, take, drop, length-append, length-drop, List·getD-append, take-append-drop}
-use lib.Seq.{sets, sets-eq, length-take-le, getD-append-add, getD-take, getD-drop, take-at, drop-append-add, drop-drop, drop-cons}
+use lib.Seq.{sets, sets-eq, length-take-le, getD-append-add, take-at, drop-append-add, drop-drop, drop-cons}
 use lib.IntN.{ℤ}
 use mir.Syntax.{Width, w32, w64}
 use mir.Val.{SFits, bits, toZ, ofZ}
@@ -17,37 +17,12 @@ pub sets-put : (vs l : List ℕ) (at : ℕ) → at + length vs ≤ length l → 
 unfolding put
 sets-put vs l at h = sets-eq vs l at h ∙ append-assoc (take at l) _ _
 
--- laying keeps the length
-pub length-put : (l : List ℕ) (at : ℕ) (vs : List ℕ) → at + length vs ≤ length l → length (put l at vs) ≡ length l
-unfolding put
-length-put l at vs h = simp (length-append, length-drop, length-take-le at l (omega arith)) (omega arith)
-
 -- what was laid reads back
 pub getD-put : (l : List ℕ) (at : ℕ) (vs : List ℕ) (i : ℕ) → at ≤ length l → i < length vs → getD (put l at vs) (at + i) 0 ≡ getD vs i 0
 unfolding put
 getD-put l at vs i h k =
     subst (λ (n : ℕ). getD (take at l ++ (vs ++ drop (at + length vs) l)) (n + i) 0 ≡ getD vs i 0) (length-take-le at l h)
     (getD-append-add (take at l) (vs ++ drop (at + length vs) l) i 0 ∙ List·getD-append vs (drop (at + length vs) l) 0 i k)
-
--- before the laid part all is as it was
-pub getD-put-before : (l : List ℕ) (at : ℕ) (vs : List ℕ) (i : ℕ) → at ≤ length l → i < at → getD (put l at vs) i 0 ≡ getD l i 0
-unfolding put
-getD-put-before l at vs i h k =
-    let b : i < length (take at l) = rw (length-take-le at l h) k in
-    List·getD-append (take at l) _ 0 i b ∙ getD-take at l i 0 k
-
--- and behind it
-pub getD-put-behind : (l : List ℕ) (at : ℕ) (vs : List ℕ) (i : ℕ) → at ≤ length l → at + length vs ≤ i → getD (put l at vs) i 0 ≡ getD l i 0
-unfolding put
-getD-put-behind l at vs i h k =
-    let j : ℕ = i - (at + length vs) in
-    let front : List ℕ = take at l ++ vs in
-    let e : length front + j ≡ i = simp (length-append, length-take-le at l h) (omega arith) in
-    let b : at + length vs + j ≡ i = omega arith in
-    ap (λ (s : List ℕ). getD s i 0) (sym (append-assoc (take at l) vs (drop (at + length vs) l)))
-    ∙ subst (λ (n : ℕ). getD (front ++ drop (at + length vs) l) n 0 ≡ getD l (at + length vs + j) 0) e
-    (getD-append-add front (drop (at + length vs) l) j 0 ∙ getD-drop (at + length vs) l j 0)
-    ∙ ap (λ (n : ℕ). getD l n 0) b
 
 -- nothing laid changes nothing
 pub put-nil : (l : List ℕ) (at : ℕ) → put l at [] ≡ l

@@ -2,7 +2,13 @@
 ghost use mathlib.Core.Path.{_≡_};
 ghost use Prim.Native.Nat.{_+_, _*_, _≤_, _<_};
 ghost use lib.ListN.{length};
+ghost use Rattle.terms.specs.Limits.{SPAN-NUMBERS};
 use terms::Answer;
+use terms::LABEL_ENTRIES;
+use terms::LINK_ENTRIES;
+use terms::NO_BOTTOM;
+use terms::NO_TOP;
+use terms::SPAN_NUMBERS;
 
 fn main() {
     // The one byte more than 65,536 shows that there is more.
@@ -21,10 +27,10 @@ fn main() {
 }
 
 fn run(input: &[u8]) {
-    let mut block = [0u8; 3104];
-    let mut labels = [0u64; 3088];
-    let mut links = [0u8; 49408];
-    let mut spans = [0i32; 194];
+    let mut block = [0u8; block::SIZE];
+    let mut labels = [0u64; LABEL_ENTRIES];
+    let mut links = [0u8; LINK_ENTRIES];
+    let mut spans = [0i32; SPAN_NUMBERS];
     let mut at: usize = 0;
     let mut number: usize = 0;
     while at < input.len() {
@@ -51,7 +57,7 @@ fn step(
     at: usize,
     number: usize,
 ) -> usize
-    requires { ⌜ (at < length (now input)) × (194 ≤ length (now spans)) ⌝ }
+    requires { ⌜ (at < length (now input)) × (SPAN-NUMBERS ≤ length (now spans)) ⌝ }
     ensures { λ r. ⌜ (at < r) × (r ≤ length (now (input .entry))) ⌝ }
 {
     let reply = service::record_at(block, labels, links, spans, input, at);
@@ -78,7 +84,7 @@ fn behind(at: usize, used: usize, end: usize) -> usize
 
 // A line has 20 bytes for its number, a blank, 36 for the words, 44 for each of 97 pairs, and its end.
 fn print_line(number: u64, answer: Answer, spans: &[i32]) -> bool
-    requires { ⌜ 194 ≤ length (now spans) ⌝ }
+    requires { ⌜ SPAN-NUMBERS ≤ length (now spans) ⌝ }
 {
     let mut line = [0u8; 4326];
     let blank = listing::put_number(&mut line, 0, number);
@@ -122,9 +128,9 @@ fn put_pair(out: &mut [u8], at: usize, top: i32, bottom: i32) -> usize
     ensures { λ r. ⌜ length (now (out .exit)) ≡ length (now (out .entry)) ⌝ }
 {
     let upper = listing::put_text(out, at, b" ");
-    let colon = put_end(out, upper, top, -2147483648);
+    let colon = put_end(out, upper, top, NO_TOP);
     let lower = listing::put_text(out, colon, b":");
-    put_end(out, lower, bottom, 2147483647)
+    put_end(out, lower, bottom, NO_BOTTOM)
 }
 
 // A depth, or a star for the number that means no end on its side.

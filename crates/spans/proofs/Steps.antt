@@ -8,6 +8,7 @@ use native.Mathlib.Numerals.{add-one}
 use lib.IntN.{ℤ}
 use lib.ListN.{length, take, drop, set, length-append, take-append-drop}
 use lib.Seq.{sets-eq, take-at, drop-append-add, drop-drop}
+use Rattle.terms.specs.Limits.{CUTS, SPAN-NUMBERS}
 use Rattle.terms.specs.Spans.{Run}
 use Rattle.line.specs.Cuts.{top-of, bottom-of}
 use Rattle.spans.specs.declared.Progress.{Progress}
@@ -143,7 +144,7 @@ module _ (cs : List ℤ) (has : ℕ → Bool) where
     all : (h : Bool) (rest : List Run) → Parted h rest → runs cs has ≡ (w .done ++ ended h) ++ rest
     all h rest e = w .left ∙ ap (λ x. w .done ++ x) e ∙ sym (append-assoc (w .done) (ended h) rest)
 
-    module _ (few : length cs ≤ 192) (room : 194 ≤ length buffer) where
+    module _ (few : length cs ≤ CUTS) (room : SPAN-NUMBERS ≤ length buffer) where
       fits : (h : Bool) (rest : List Run) → Parted h rest → 2 * (g .count + length (ended h)) ≤ length buffer
       fits h rest e =
           omega (

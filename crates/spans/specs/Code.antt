@@ -5,6 +5,7 @@ use mathlib.Core.List.{List, [], _∷_, _++_}
 use Prim.Native.Nat.{ℕ, suc, pred, _+_, _-_, _*_, _≤_, _<_}
 use lib.IntN.{ℤ}
 use lib.ListN.{length, take, drop}
+use Rattle.terms.specs.Limits.{ITEMS, LABELS, LABEL-ENTRIES, SPAN-NUMBERS}
 use Rattle.terms.specs.Spans.{Run, run}
 use Rattle.line.specs.Cuts.{top-of, bottom-of}
 use Rattle.line.specs.Code.{Cuts-in, Low-cuts}
@@ -15,10 +16,10 @@ use Rattle.spans.specs.Runs.{Begun, outside, since, runsFrom, runs, flat
 pub record To-write (buffer : List ℤ) (table : List ℕ) (a A : ℕ) (line : List ℤ) (n : ℕ) : Type 0 where
   pub cuts : Cuts-in line n
   pub low : Low-cuts line n
-  pub item : a < 16
-  pub label : A < 64
-  pub labels : 3088 ≤ length table
-  pub spans : 194 ≤ length buffer
+  pub item : a < ITEMS
+  pub label : A < LABELS
+  pub labels : LABEL-ENTRIES ≤ length table
+  pub spans : SPAN-NUMBERS ≤ length buffer
 
 -- 01, Records: the pairs stand first in the buffer, and behind them it is as lent
 pub record Spans-written (rs : List Run) (before after : List ℤ) (r : ℕ) : Type 0 where

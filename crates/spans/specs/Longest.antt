@@ -11,7 +11,7 @@ use lib.IntN.{ℤ, sucℤ, predℤ}
 use lib.Signed.{_≤ℤ_, _<ℤ_}
 use lib.ListN.{length, List·getD-eq-default}
 use Rattle.terms.specs.Order.{ints, suc-is, pred-is, le-or-gt, ≤-refl}
-use Rattle.terms.specs.Limits.{NO-TOP, NO-BOTTOM}
+use Rattle.terms.specs.Limits.{CUTS, SPAN-NUMBERS, NO-TOP, NO-BOTTOM}
 use Rattle.terms.specs.Held.{_∈_}
 use Rattle.terms.specs.Spans.{Run, run, Covers, Covered, Ordered, Apart, Longest}
 use Rattle.line.specs.Cuts.{Asc, upto, upto-length, nth, nth-le, nth-gt, nth-in, nth-asc, top-of, bottom-of, top-own}
@@ -333,6 +333,6 @@ unfolding flat
 flat-length [] = omega arith
 flat-length (r ∷ rs) = omega (arith, flat-length rs)
 
--- 01, Records: with at most 192 cuts, the pairs fit the lent buffer
-pub runs-fit : (cs : List ℤ) (has : ℕ → Bool) → length cs ≤ 192 → (length (runs cs has) ≤ 97) × (length (flat (runs cs has)) ≤ 194)
+-- 01, Records: with at most CUTS cuts, the pairs fit the lent buffer
+pub runs-fit : (cs : List ℤ) (has : ℕ → Bool) → length cs ≤ CUTS → (length (runs cs has) ≤ 97) × (length (flat (runs cs has)) ≤ SPAN-NUMBERS)
 runs-fit cs has h = (omega (arith, runs-few cs has), omega (arith, runs-few cs has, flat-length (runs cs has)))

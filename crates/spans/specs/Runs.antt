@@ -5,6 +5,7 @@ use Prim.Native.Nat.{ℕ, zero, suc, pred, _+_, _*_}
 use lib.Dec.{eqb}
 use lib.IntN.{ℤ}
 use lib.ListN.{length, getD}
+use Rattle.terms.specs.Limits.{INTERVALS}
 use Rattle.terms.specs.Spans.{Run, run}
 use Rattle.words.specs.Bit.{bitAt}
 use Rattle.line.specs.Cuts.{top-of, bottom-of}
@@ -35,4 +36,4 @@ flat (r ∷ rs) = r .top ∷ r .bottom ∷ flat rs
 
 -- the label's bit in an item's entries of the label table
 abbrev pub hasLabel : List ℕ → ℕ → ℕ → ℕ → Bool
-hasLabel labels item label p = eqb (bitAt (getD labels (item * 193 + p) 0) label) 1
+hasLabel labels item label p = eqb (bitAt (getD labels (item * INTERVALS + p) 0) label) 1

@@ -5,6 +5,8 @@ ghost use Prim.Native.Nat.{_+_, _*_, _≤_};
 ghost use lib.ListN.{length, take};
 ghost use Rattle.spans.specs.Runs.{runs, hasLabel};
 ghost use Rattle.spans.specs.Code.{laid, To-write, Spans-written, To-step, Stepped};
+use terms::CUTS;
+use terms::INTERVALS;
 
 // Whether a span has begun, at which interval, and how many are written.
 struct Progress {
@@ -25,7 +27,7 @@ fn put_pair(spans: &mut [i32], place: usize, top: i32, bottom: i32)
 // Goes on to interval `p`: where it does not have the label, the span that has begun ends before it.
 fn step(
     spans: &mut [i32],
-    cuts: &[i32; 192],
+    cuts: &[i32; CUTS],
     n: usize,
     p: usize,
     has: bool,
@@ -60,7 +62,7 @@ pub fn write_spans(
     labels: &[u64],
     item: usize,
     label: usize,
-    cuts: &[i32; 192],
+    cuts: &[i32; CUTS],
     n: usize,
 ) -> usize
     requires { ⌜ To-write (now spans) (now labels) item label (now cuts) n ⌝ }
@@ -74,7 +76,7 @@ pub fn write_spans(
     };
     let mut p: usize = 0;
     while p <= n {
-        let has = words::bit(labels[item * 193 + p], label) == 1;
+        let has = words::bit(labels[item * INTERVALS + p], label) == 1;
         state = step(spans, cuts, n, p, has, state);
         p += 1;
     }

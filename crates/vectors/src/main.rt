@@ -82,24 +82,71 @@ fn step(
     if kind == 4 {
         return poke(script, place, block);
     }
-    // CALL and SPANS have 11 bytes each before the input.
     if script.len() - at < 11 {
         return bad(script.len());
     }
-    let lengths = lengths_at(script, at + 1);
+    call(script, place, block, labels, links, spans)
+}
+
+// CALL and SPANS, which have 11 bytes each; the input of CALL stands behind them.
+fn call(
+    script: &[u8],
+    place: Place,
+    block: &mut [u8],
+    labels: &mut [u64],
+    links: &mut [u8],
+    spans: &mut [i32],
+) -> Place
+    requires { ⌜ (place .number ≤ place .at) × (place .at + 11 ≤ length (now script)) ⌝ }
+    requires { ⌜ (length (now block) ≡ 4096) × (length (now labels) ≡ 3200) × (length (now links) ≡ 50000) × (length (now spans) ≡ 256) ⌝ }
+    ensures { λ r. ⌜ (r .number ≤ r .at) × (place .at < r .at) × (r .at ≤ length (now (script .entry))) ⌝ }
+{
+    let lengths = lengths_at(script, place.at);
     if !lengths.good {
         return bad(script.len());
     }
-    match kind {
-        1 => call(script, place, lengths, block, labels, links, spans),
-        2 => ask(script, place, lengths, block, labels, links, spans),
-        _ => bad(script.len()),
-    }
+    let reply = lend(script, place.at, lengths, block, labels, links, spans);
+    let sums = sums_of(block, labels, links, spans);
+    after(place, lengths.end, script.len(), reply, sums)
 }
 
-// The lengths at which a step lends the memory; all 0, and not good, where one is past its memory.
+// Lends the first elements of each memory.
+fn lend(
+    script: &[u8],
+    at: usize,
+    lengths: Lengths,
+    block: &mut [u8],
+    labels: &mut [u64],
+    links: &mut [u8],
+    spans: &mut [i32],
+) -> Reply
+    requires { ⌜ (at + 11 ≤ lengths .end) × (lengths .end ≤ length (now script)) ⌝ }
+    requires { ⌜ (lengths .block ≤ length (now block)) × (lengths .labels ≤ length (now labels)) × (lengths .links ≤ length (now links))
+        × (lengths .spans ≤ length (now spans)) ⌝ }
+{
+    let start = at + 11;
+    let end = lengths.end;
+    let b = lengths.block;
+    let t = lengths.labels;
+    let k = lengths.links;
+    let s = lengths.spans;
+    serve(
+        &mut block[0..b],
+        &mut labels[0..t],
+        &mut links[0..k],
+        &mut spans[0..s],
+        &script[start..end],
+        script[at],
+        script[at + 9],
+        script[at + 10],
+    )
+}
+
+// Where the step ends, and the lengths at which it lends the memory; not good where one is past its memory,
+// where the script does not have the input whole, or where the step is neither CALL nor SPANS.
 struct Lengths {
     good: bool,
+    end: usize,
     block: usize,
     labels: usize,
     links: usize,
@@ -107,31 +154,59 @@ struct Lengths {
 }
 
 fn lengths_at(script: &[u8], at: usize) -> Lengths
-    requires { ⌜ at + 8 ≤ length (now script) ⌝ }
+    requires { ⌜ at + 11 ≤ length (now script) ⌝ }
     ensures { λ r. ⌜ (r .block ≤ 4096) × (r .labels ≤ 3200) × (r .links ≤ 50000) × (r .spans ≤ 256) ⌝ }
+    ensures { λ r. ⌜ (at + 11 ≤ r .end) × (r .end ≤ length (now (script .entry))) ⌝ }
 {
+    let start = at + 11;
+    let count = input_count(script[at], codec::u16_at(script, at + 9));
+    if script.len() - start < count {
+        return unlent(start);
+    }
     checked(
-        codec::u16_at(script, at),
-        codec::u16_at(script, at + 2),
-        codec::u16_at(script, at + 4),
-        codec::u16_at(script, at + 6),
+        start + count,
+        codec::u16_at(script, at + 1),
+        codec::u16_at(script, at + 3),
+        codec::u16_at(script, at + 5),
+        codec::u16_at(script, at + 7),
     )
 }
 
-fn checked(block: u16, labels: u16, links: u16, spans: u16) -> Lengths
-    ensures { λ r. ⌜ (r .block ≤ 4096) × (r .labels ≤ 3200) × (r .links ≤ 50000) × (r .spans ≤ 256) ⌝ }
+// How many bytes of input a step has: SPANS has its item and label in the place of their number; more than a script has for other kinds.
+fn input_count(kind: u8, number: u16) -> usize
+    ensures { λ r. ⌜ r ≤ 65536 ⌝ }
+{
+    if kind == 1 {
+        return number as usize;
+    }
+    if kind == 2 {
+        return 0;
+    }
+    65536
+}
+
+fn unlent(end: usize) -> Lengths
+    ensures { λ r. ⌜ (r .block ≡ 0) × (r .labels ≡ 0) × (r .links ≡ 0) × (r .spans ≡ 0) × (r .end ≡ end) ⌝ }
+{
+    Lengths {
+        good: false,
+        end,
+        block: 0,
+        labels: 0,
+        links: 0,
+        spans: 0,
+    }
+}
+
+fn checked(end: usize, block: u16, labels: u16, links: u16, spans: u16) -> Lengths
+    ensures { λ r. ⌜ (r .block ≤ 4096) × (r .labels ≤ 3200) × (r .links ≤ 50000) × (r .spans ≤ 256) × (r .end ≡ end) ⌝ }
 {
     if block > 4096 || labels > 3200 || links > 50000 || spans > 256 {
-        return Lengths {
-            good: false,
-            block: 0,
-            labels: 0,
-            links: 0,
-            spans: 0,
-        };
+        return unlent(end);
     }
     Lengths {
         good: true,
+        end,
         block: block as usize,
         labels: labels as usize,
         links: links as usize,
@@ -139,132 +214,74 @@ fn checked(block: u16, labels: u16, links: u16, spans: u16) -> Lengths
     }
 }
 
-// CALL: a record call on the input that stands behind its length.
-fn call(
-    script: &[u8],
-    place: Place,
-    lengths: Lengths,
+// SPANS: the call beside the records; CALL: a record call.
+fn serve(
     block: &mut [u8],
     labels: &mut [u64],
     links: &mut [u8],
     spans: &mut [i32],
-) -> Place
-    requires { ⌜ (place .number ≤ place .at) × (place .at + 11 ≤ length (now script)) ⌝ }
-    requires { ⌜ (lengths .block ≤ length (now block)) × (lengths .labels ≤ length (now labels)) × (lengths .links ≤ length (now links))
-        × (lengths .spans ≤ length (now spans)) ⌝ }
-    ensures { λ r. ⌜ (r .number ≤ r .at) × (place .at < r .at) × (r .at ≤ length (now (script .entry))) ⌝ }
-{
-    let start = place.at + 11;
-    let count = codec::u16_at(script, start - 2) as usize;
-    if script.len() - start < count {
-        return bad(script.len());
+    input: &[u8],
+    kind: u8,
+    item: u8,
+    label: u8,
+) -> Reply {
+    if kind == 2 {
+        return service::spans_of(block, labels, links, spans, item, label);
     }
-    let end = start + count;
-    let b = lengths.block;
-    let t = lengths.labels;
-    let k = lengths.links;
-    let s = lengths.spans;
-    let reply = service::record(
-        &mut block[0..b],
-        &mut labels[0..t],
-        &mut links[0..k],
-        &mut spans[0..s],
-        &script[start..end],
-    );
-    after(place, end, script.len(), reply, block, labels, links, spans)
+    service::record(block, labels, links, spans, input)
 }
 
-// SPANS: the call beside the records.
-fn ask(
-    script: &[u8],
-    place: Place,
-    lengths: Lengths,
-    block: &[u8],
-    labels: &mut [u64],
-    links: &mut [u8],
-    spans: &mut [i32],
-) -> Place
-    requires { ⌜ (place .number ≤ place .at) × (place .at + 11 ≤ length (now script)) ⌝ }
-    requires { ⌜ (lengths .block ≤ length (now block)) × (lengths .labels ≤ length (now labels)) × (lengths .links ≤ length (now links))
-        × (lengths .spans ≤ length (now spans)) ⌝ }
-    ensures { λ r. ⌜ (r .number ≤ r .at) × (place .at < r .at) × (r .at ≤ length (now (script .entry))) ⌝ }
-{
-    let end = place.at + 11;
-    let item = script[end - 2];
-    let label = script[end - 1];
-    let b = lengths.block;
-    let t = lengths.labels;
-    let k = lengths.links;
-    let s = lengths.spans;
-    let reply = service::spans_of(
-        &block[0..b],
-        &mut labels[0..t],
-        &mut links[0..k],
-        &mut spans[0..s],
-        item,
-        label,
-    );
-    after(place, end, script.len(), reply, block, labels, links, spans)
+// A checksum of each memory, whole.
+struct Checksums {
+    block: u64,
+    labels: u64,
+    links: u64,
+    spans: u64,
+}
+
+fn sums_of(block: &[u8], labels: &[u64], links: &[u8], spans: &[i32]) -> Checksums {
+    Checksums {
+        block: sums::of_bytes(block),
+        labels: sums::of_numbers(labels),
+        links: sums::of_bytes(links),
+        spans: sums::of_depths(spans),
+    }
 }
 
 // Prints a call's line and answers the place behind its step; the script's end where the line cannot be written.
-fn after(
-    place: Place,
-    next: usize,
-    end: usize,
-    reply: Reply,
-    block: &[u8],
-    labels: &[u64],
-    links: &[u8],
-    spans: &[i32],
-) -> Place
+fn after(place: Place, next: usize, end: usize, reply: Reply, sums: Checksums) -> Place
     requires { ⌜ (place .number ≤ place .at) × (place .at < next) × (next ≤ end) ⌝ }
     ensures { λ r. ⌜ (r .number ≤ r .at) × (place .at < r .at) × (r .at ≤ end) ⌝ }
 {
     let number = place.number + 1;
-    if print_line(number, reply, block, labels, links, spans) {
+    if print_line(number, reply, sums) {
         return Place { at: next, number };
     }
     Place { at: end, number }
 }
 
 // A line has 20 bytes for its number, a blank, 36 for each of six words with their numbers, and its end.
-fn print_line(
-    number: usize,
-    reply: Reply,
-    block: &[u8],
-    labels: &[u64],
-    links: &[u8],
-    spans: &[i32],
-) -> bool {
+fn print_line(number: usize, reply: Reply, sums: Checksums) -> bool {
     let mut line = [0u8; 238];
     let answer = reply.answer;
-    let used = reply.used;
     let blank = listing::put_number(&mut line, 0, number as u64);
     let words = listing::put_text(&mut line, blank, b" ");
     let bytes = listing::put_answer(&mut line, words, answer);
-    let sums = listing::put_counted(&mut line, bytes, b" used ", used as u64);
-    let end = put_sums(&mut line, sums, block, labels, links, spans);
+    let used = listing::put_counted(&mut line, bytes, b" used ", reply.used as u64);
+    let end = put_sums(&mut line, used, sums);
     let all = listing::put_text(&mut line, end, b"\n");
     listing::print_first(&line, all, b"vectors: standard output")
 }
 
-fn put_sums(
-    out: &mut [u8],
-    at: usize,
-    block: &[u8],
-    labels: &[u64],
-    links: &[u8],
-    spans: &[i32],
-) -> usize
+fn put_sums(out: &mut [u8], at: usize, sums: Checksums) -> usize
     requires { ⌜ at + 144 ≤ length (now out) ⌝ }
     ensures { λ r. ⌜ r ≤ at + 144 ⌝ }
     ensures { λ r. ⌜ length (now (out .exit)) ≡ length (now (out .entry)) ⌝ }
 {
-    let second = listing::put_counted(out, at, b" block ", sums::of_bytes(block));
-    let third = listing::put_counted(out, second, b" labels ", sums::of_numbers(labels));
-    let fourth = listing::put_counted(out, third, b" links ", sums::of_bytes(links));
-    listing::put_counted(out, fourth, b" spans ", sums::of_depths(spans))
+    let second = listing::put_counted(out, at, b" block ", sums.block);
+    let third = listing::put_counted(out, second, b" labels ", sums.labels);
+    let fourth = listing::put_counted(out, third, b" links ", sums.links);
+    listing::put_counted(out, fourth, b" spans ", sums.spans)
 }
 
 // FILL: one memory, whole.

@@ -3,12 +3,15 @@ use mathlib.Core.Path.{_≡_}
 use Prim.Native.Nat.{_≤_, _-_}
 use lib.ListN.{length}
 use borrow.Author.Needs.{needs}
+use Rattle.terms.specs.Limits.{LABEL-ENTRIES, LINK-ENTRIES, SPAN-NUMBERS}
+use Rattle.block.specs.Block.{SIZE}
 use Rattle.harmikse.proofs.run.Statement.{statement}
 use Rattle.harmikse.proofs.run.Tie as tie
 
 abbrev Inv-loop : tie.InvT-loop
 Inv-loop input block₀ labels₀ links₀ spans₀ at₀ number₀ block labels links spans at number =
-    (number ≤ at) × (at ≤ length input) × (length block ≡ 3104) × (length labels ≡ 3088) × (length links ≡ 49408) × (length spans ≡ 194)
+    (number ≤ at) × (at ≤ length input) × (length block ≡ SIZE) × (length labels ≡ LABEL-ENTRIES) × (length links ≡ LINK-ENTRIES)
+    × (length spans ≡ SPAN-NUMBERS)
 
 abbrev μ-loop : tie.MeasureT-loop
 μ-loop input block₀ labels₀ links₀ spans₀ at₀ number₀ block labels links spans at number = length input - at

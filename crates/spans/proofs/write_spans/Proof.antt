@@ -8,6 +8,7 @@ use native.Mathlib.Numerals.{add-one}
 use lib.IntN.{ℤ}
 use lib.ListN.{length, take}
 use lib.Seq.{length-take-le}
+use Rattle.terms.specs.Limits.{CUTS, SPAN-NUMBERS}
 use Rattle.spans.specs.Runs.{hasLabel}
 use Rattle.spans.specs.Code.{Written-so-far, To-step, endedAt, begunIn}
 use Rattle.spans.proofs.Steps.{none-written, fits-next, fits-last, written-next, written-last}
@@ -35,10 +36,10 @@ module _ (c : tie.At-loop Inv-loop μ-loop) where
   used : length line ≡ start .args .n
   used = length-take-le (start .args .n) (start .args .cuts .now) (omega (arith, start .pre .cuts .size, start .pre .cuts .few))
 
-  few : length line ≤ 192
+  few : length line ≤ CUTS
   few = omega (arith, used, start .pre .cuts .few)
 
-  room : 194 ≤ length (c .loop .spans)
+  room : SPAN-NUMBERS ≤ length (c .loop .spans)
   room = omega (arith, c .loop .inv .1, start .pre .spans)
 
   to-step : (h : Bool) → 2 * (c .loop .state .count + length (endedAt line (c .loop .p) h (begunIn (c .loop .state)))) ≤ length (c .loop .spans) →
