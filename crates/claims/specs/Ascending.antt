@@ -1,88 +1,142 @@
--- Lists of tests whose numbers ascend: the number given is the lowest that applies. Assumes nothing.
+-- Lists of tests whose numbers ascend by rank: the number given is the lowest that applies. Assumes nothing.
 use mathlib.Core.Path.{_≡_, refl, sym, ap, _∙_, subst}
 use mathlib.Core.Logic.{_⊎_, inl, inr}
 use mathlib.Core.Bool.{Bool, true, false, cond}
 use mathlib.Core.List.{List, [], _∷_, _++_, List·Memᴰ·head, List·Memᴰ·tail, List·Memᴰ·cases-cons, List·Memᴰ·not-nil}
 use Prim.Native.Nat.{ℕ, _≤_, _<_}
 use native.Mathlib.Omega.{arith}
+use native.Mathlib.Decide.{decLt}
 use borrow.Author.Tests.{ne-eqb}
-use lib.Dec.{T, eqb}
-use Rattle.terms.specs.Refusals.{Test, lowest}
+use lib.Dec.{T}
+use Rattle.terms.specs.declared.Tested.{Tested}
+use Rattle.terms.specs.declared.Tested.the-variants as Tested
+use Rattle.terms.specs.Refusals.{rank, Test, tested, orElse}
+use Rattle.terms.specs.Ranks.{rank-same}
 use Rattle.terms.specs.Held.{_∈_}
 
--- the numbers lie from one to another, and each is at most those behind it
+-- ---- what tests come to
+
+pub clash : {A : Type 0} {n : ℕ} → Tested.Passed ≡ Tested.Refused n → A
+clash e = let z : _≡_ {A = ℕ} 0 1 = cc in let w : ⊥ = omega arith in absurd w
+
+pub same-number : {n k : ℕ} → Tested.Refused n ≡ Tested.Refused k → n ≡ k
+same-number e = cc
+
+-- of two lists in a row the first decides where one of its tests applies
+pub tested-append : (xs ys : List Test) → tested (xs ++ ys) ≡ orElse (tested xs) (tested ys)
+tested-append [] ys = refl
+tested-append (t ∷ xs) ys = go (t .applies) (tested-append xs ys)
+  where
+    go :
+        (b : Bool) → tested (xs ++ ys) ≡ orElse (tested xs) (tested ys) →
+        cond b (Tested.Refused (t .number)) (tested (xs ++ ys)) ≡ orElse (cond b (Tested.Refused (t .number)) (tested xs)) (tested ys)
+    go true e = refl
+    go false e = e
+
+-- a number that is given is that of a test that applies
+pub tested-applies : (ts : List Test) (n : ℕ) → tested ts ≡ Tested.Refused n → (t : Test) × (t ∈ ts) × T (t .applies) × (t .number ≡ n)
+tested-applies [] n e = clash e
+tested-applies (u ∷ ts) n e = go (u .applies) refl e (λ d. tested-applies ts n d)
+  where
+    go :
+        (b : Bool) → u .applies ≡ b → cond b (Tested.Refused (u .number)) (tested ts) ≡ Tested.Refused n →
+        (tested ts ≡ Tested.Refused n → (t : Test) × (t ∈ ts) × T (t .applies) × (t .number ≡ n)) →
+        (t : Test) × (t ∈ (u ∷ ts)) × T (t .applies) × (t .number ≡ n)
+    go true f d k = (u, List·Memᴰ·head refl, subst T (sym f) tt, same-number d)
+    go false f d k = let w = k d in (w .0, List·Memᴰ·tail (w .1), w .2, w .3)
+
+-- where a test applies, a number is given
+pub tested-some : (ts : List Test) (t : Test) → t ∈ ts → T (t .applies) → (n : ℕ) × (tested ts ≡ Tested.Refused n)
+tested-some [] t m p = absurd (List·Memᴰ·not-nil m)
+tested-some (u ∷ ts) t m p = go (u .applies) refl (λ n. tested-some ts t n p) (List·Memᴰ·cases-cons m)
+  where
+    go :
+        (b : Bool) → u .applies ≡ b → (t ∈ ts → (n : ℕ) × (tested ts ≡ Tested.Refused n)) → (t ≡ u) ⊎ (t ∈ ts) →
+        (n : ℕ) × (cond b (Tested.Refused (u .number)) (tested ts) ≡ Tested.Refused n)
+    go true e f c = (u .number, refl)
+    go false e f (inl d) = absurd (subst T (ap (λ (v : Test). v .applies) d ∙ e) p)
+    go false e f (inr n) = f n
+
+-- ---- ranks that ascend
+
+-- the ranks lie from one to another, and each is at most those behind it
 abbrev pub Ascends : ℕ → ℕ → List Test → Type 0
 Ascends low high [] = Unit {0}
-Ascends low high (t ∷ ts) = (low ≤ t .number) × (t .number ≤ high) × Ascends (t .number) high ts
+Ascends low high (t ∷ ts) = (low ≤ rank (t .number)) × (rank (t .number) ≤ high) × Ascends (rank (t .number)) high ts
 
 pub wider : (low high low′ high′ : ℕ) (ts : List Test) → low′ ≤ low → high ≤ high′ → Ascends low high ts → Ascends low′ high′ ts
 wider low high low′ high′ [] l h a = tt
-wider low high low′ high′ (t ∷ ts) l h a = (omega (arith, a .0), omega (arith, a .1), wider (t .number) high (t .number) high′ ts (omega arith) h (a .2))
+wider low high low′ high′ (t ∷ ts) l h a =
+    (omega (arith, a .0), omega (arith, a .1), wider (rank (t .number)) high (rank (t .number)) high′ ts (omega arith) h (a .2))
 
-pub ascends-append : (low mid high : ℕ) (xs ys : List Test) → low ≤ mid → mid ≤ high → Ascends low mid xs → Ascends mid high ys → Ascends low high (xs ++ ys)
+pub ascends-append :
+    (low mid high : ℕ) (xs ys : List Test) → low ≤ mid → mid ≤ high → Ascends low mid xs → Ascends mid high ys → Ascends low high (xs ++ ys)
 ascends-append low mid high [] ys l h a b = wider mid high low high ys l (omega arith) b
-ascends-append low mid high (t ∷ xs) ys l h a b = (a .0, omega (arith, a .1), ascends-append (t .number) mid high xs ys (a .1) h (a .2) b)
+ascends-append low mid high (t ∷ xs) ys l h a b = (a .0, omega (arith, a .1), ascends-append (rank (t .number)) mid high xs ys (a .1) h (a .2) b)
 
--- each number is at least the lower end
-at-least : (low high : ℕ) (ts : List Test) → Ascends low high ts → (t : Test) → t ∈ ts → low ≤ t .number
-at-least low high [] a t m = absurd (List·Memᴰ·not-nil m)
-at-least low high (u ∷ ts) a t m = go (λ n. at-least (u .number) high ts (a .2) t n) (List·Memᴰ·cases-cons m)
-  where
-    go : (t ∈ ts → u .number ≤ t .number) → (t ≡ u) ⊎ (t ∈ ts) → low ≤ t .number
-    go f (inl e) = subst (λ (v : Test). low ≤ v .number) (sym e) (a .0)
-    go f (inr n) = omega (arith, f n, a .0)
-
--- where a test applies, the number given is at most its own
-pub lowest-first : (low high : ℕ) (ts : List Test) → Ascends low high ts → (t : Test) → t ∈ ts → T (t .applies) → lowest ts ≤ t .number
-lowest-first low high [] a t m p = absurd (List·Memᴰ·not-nil m)
-lowest-first low high (u ∷ ts) a t m p = go (u .applies) refl (λ n. lowest-first (u .number) high ts (a .2) t n p) (List·Memᴰ·cases-cons m)
-  where
-    go : (b : Bool) → u .applies ≡ b → (t ∈ ts → lowest ts ≤ t .number) → (t ≡ u) ⊎ (t ∈ ts) → cond b (u .number) (lowest ts) ≤ t .number
-    go true e l (inl d) = subst (λ (v : Test). u .number ≤ v .number) (sym d) (omega arith)
-    go true e l (inr n) = at-least (u .number) high ts (a .2) t n
-    go false e l (inl d) = absurd (subst T (ap (λ (v : Test). v .applies) d ∙ e) p)
-    go false e l (inr n) = l n
-
--- a number that is given is that of a test that applies
-pub lowest-applies : (low high : ℕ) (ts : List Test) → Ascends low high ts → 0 < lowest ts → (t : Test) × (t ∈ ts) × T (t .applies) × (t .number ≡ lowest ts)
-lowest-applies low high [] a p = let z : ⊥ = omega arith in absurd z
-lowest-applies low high (u ∷ ts) a p = go (u .applies) refl (λ q. lowest-applies (u .number) high ts (a .2) q) p
+-- each rank is in range
+pub in-range : (low high : ℕ) (ts : List Test) → Ascends low high ts → (t : Test) → t ∈ ts → (low ≤ rank (t .number)) × (rank (t .number) ≤ high)
+in-range low high [] a t m = absurd (List·Memᴰ·not-nil m)
+in-range low high (u ∷ ts) a t m = go (λ n. in-range (rank (u .number)) high ts (a .2) t n) (List·Memᴰ·cases-cons m)
   where
     go :
-        (b : Bool) → u .applies ≡ b → (0 < lowest ts → (t : Test) × (t ∈ ts) × T (t .applies) × (t .number ≡ lowest ts)) → 0 < cond b (u .number) (lowest ts)
-        → (t : Test) × (t ∈ (u ∷ ts)) × T (t .applies) × (t .number ≡ cond b (u .number) (lowest ts))
-    go true e f p = (u, List·Memᴰ·head refl, subst T (sym e) tt, refl)
-    go false e f p = let w = f p in (w .0, List·Memᴰ·tail (w .1), w .2, w .3)
+        (t ∈ ts → (rank (u .number) ≤ rank (t .number)) × (rank (t .number) ≤ high)) → (t ≡ u) ⊎ (t ∈ ts) →
+        (low ≤ rank (t .number)) × (rank (t .number) ≤ high)
+    go f (inl e) = subst (λ (v : Test). (low ≤ rank (v .number)) × (rank (v .number) ≤ high)) (sym e) (a .0, a .1)
+    go f (inr n) = let w = f n in (omega (arith, w .0, a .0), w .1)
 
--- none is given, or one in range
-pub lowest-in : (low high : ℕ) (ts : List Test) → Ascends low high ts → (lowest ts ≡ 0) ⊎ ((low ≤ lowest ts) × (lowest ts ≤ high))
-lowest-in low high [] a = inl refl
-lowest-in low high (u ∷ ts) a = go (u .applies) (lowest-in (u .number) high ts (a .2))
+-- and so is that of the number given
+pub tested-in : (low high : ℕ) (ts : List Test) → Ascends low high ts → (n : ℕ) → tested ts ≡ Tested.Refused n → (low ≤ rank n) × (rank n ≤ high)
+tested-in low high ts a n e =
+    let (t, m, p, f) = tested-applies ts n e in
+    subst (λ v. (low ≤ rank v) × (rank v ≤ high)) f (in-range low high ts a t m)
+
+-- where a test applies, the number given ranks no later than its own
+pub tested-lowest :
+    (low high : ℕ) (ts : List Test) → Ascends low high ts → (n : ℕ) → tested ts ≡ Tested.Refused n →
+    (t : Test) → t ∈ ts → T (t .applies) → rank n ≤ rank (t .number)
+tested-lowest low high [] a n e t m p = absurd (List·Memᴰ·not-nil m)
+tested-lowest low high (u ∷ ts) a n e t m p =
+    go (u .applies) refl e (λ d k. tested-lowest (rank (u .number)) high ts (a .2) n d t k p) (List·Memᴰ·cases-cons m)
   where
     go :
-        (b : Bool) → (lowest ts ≡ 0) ⊎ ((u .number ≤ lowest ts) × (lowest ts ≤ high))
-        → (cond b (u .number) (lowest ts) ≡ 0) ⊎ ((low ≤ cond b (u .number) (lowest ts)) × (cond b (u .number) (lowest ts) ≤ high))
-    go true f = inr (a .0, a .1)
-    go false (inl e) = inl e
-    go false (inr w) = inr (omega (arith, w .0, a .0), w .1)
+        (b : Bool) → u .applies ≡ b → cond b (Tested.Refused (u .number)) (tested ts) ≡ Tested.Refused n →
+        (tested ts ≡ Tested.Refused n → t ∈ ts → rank n ≤ rank (t .number)) → (t ≡ u) ⊎ (t ∈ ts) → rank n ≤ rank (t .number)
+    go true f d k (inl s) =
+        subst (λ v. rank v ≤ rank (t .number)) (same-number d) (subst (λ (v : Test). rank (u .number) ≤ rank (v .number)) (sym s) (omega arith))
+    go true f d k (inr q) = subst (λ v. rank v ≤ rank (t .number)) (same-number d) (in-range (rank (u .number)) high ts (a .2) t q .0)
+    go false f d k (inl s) = absurd (subst T (ap (λ (v : Test). v .applies) s ∙ f) p)
+    go false f d k (inr q) = k d q
 
--- of two lists in a row the first decides where one of its tests applies
-pub lowest-append : (high : ℕ) (xs ys : List Test) → Ascends 1 high xs → lowest (xs ++ ys) ≡ cond (eqb (lowest xs) 0) (lowest ys) (lowest xs)
-lowest-append high [] ys a = refl
-lowest-append high (u ∷ xs) ys a = go (u .applies) (lowest-append high xs ys (wider (u .number) high 1 high xs (a .0) (omega arith) (a .2)))
-  where
-    go :
-        (b : Bool) → lowest (xs ++ ys) ≡ cond (eqb (lowest xs) 0) (lowest ys) (lowest xs)
-        → cond b (u .number) (lowest (xs ++ ys)) ≡ cond (eqb (cond b (u .number) (lowest xs)) 0) (lowest ys) (cond b (u .number) (lowest xs))
-    go true e = sym (ap (λ v. cond v (lowest ys) (u .number)) (ne-eqb (u .number) 0 (λ z. omega (arith, a .0))))
-    go false e = e
+-- ---- ranks and numbers
 
--- where a test applies, a number is given
-pub lowest-some : (low high : ℕ) (ts : List Test) → 0 < low → Ascends low high ts → (t : Test) → t ∈ ts → T (t .applies) → 0 < lowest ts
-lowest-some low high [] l a t m p = absurd (List·Memᴰ·not-nil m)
-lowest-some low high (u ∷ ts) l a t m p = go (u .applies) refl (λ n. lowest-some (u .number) high ts (omega (arith, a .0)) (a .2) t n p) (List·Memᴰ·cases-cons m)
+past-last : (n : ℕ) → 12 < n → rank n ≡ 13
+unfolding rank
+past-last n l =
+    simp (
+      ne-eqb n 1 (λ e. omega arith),
+      ne-eqb n 2 (λ e. omega arith),
+      ne-eqb n 3 (λ e. omega arith),
+      ne-eqb n 4 (λ e. omega arith),
+      ne-eqb n 5 (λ e. omega arith),
+      ne-eqb n 6 (λ e. omega arith),
+      ne-eqb n 7 (λ e. omega arith),
+      ne-eqb n 8 (λ e. omega arith),
+      ne-eqb n 9 (λ e. omega arith),
+      ne-eqb n 10 (λ e. omega arith),
+      ne-eqb n 11 (λ e. omega arith),
+      ne-eqb n 12 (λ e. omega arith),
+    )
+
+no-number : rank 0 ≡ 13
+unfolding rank
+no-number = refl
+
+-- a number that is in the order is its own rank, so that lowest by rank is lowest by number
+pub rank-number : (n : ℕ) → rank n ≤ 12 → rank n ≡ n
+rank-number n h = go (decLt 0 n) (decLt n 13)
   where
-    go : (b : Bool) → u .applies ≡ b → (t ∈ ts → 0 < lowest ts) → (t ≡ u) ⊎ (t ∈ ts) → 0 < cond b (u .number) (lowest ts)
-    go true e f c = omega (arith, a .0)
-    go false e f (inl d) = absurd (subst T (ap (λ (v : Test). v .applies) d ∙ e) p)
-    go false e f (inr n) = f n
+    go : Dec (0 < n) → Dec (n < 13) → rank n ≡ n
+    go (yes l) (yes k) = rank-same n l (omega arith)
+    go (yes l) (no k) = let z : ⊥ = omega (arith, past-last n (omega arith)) in absurd z
+    go (no l) d = let e : n ≡ 0 = omega arith in let z : ⊥ = omega (arith, ap rank e, no-number) in absurd z

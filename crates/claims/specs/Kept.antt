@@ -3,7 +3,7 @@ use mathlib.Core.Path.{_≡_, sym, ap, _∙_, subst}
 use mathlib.Core.Logic.{_⊎_, ⊎-elim}
 use mathlib.Core.Bool.{Bool, true, false, not, _&&_}
 use mathlib.Core.List.{List, [], _∷_, _++_, List·Memᴰ·append-cases, List·Memᴰ·eq-of-singleton}
-use Prim.Native.Nat.{ℕ, suc, _≤_, _<_, _+_}
+use Prim.Native.Nat.{ℕ, _≤_, _<_, _+_}
 use native.Mathlib.Omega.{arith}
 use lib.Dec.{T, leb, nleb→lt}
 use lib.IntN.{ℤ}
@@ -11,19 +11,33 @@ use lib.ListN.{length, length-append}
 use Rattle.terms.specs.declared.Rule.{Rule}
 use Rattle.terms.specs.declared.Mark.{Mark}
 use Rattle.terms.specs.Limits.{RULES, MARKS, DEPTHS}
-use Rattle.terms.specs.Refusals.{Test, test, lowest}
+use Rattle.terms.specs.declared.Tested.the-variants as Tested
+use Rattle.terms.specs.Refusals.{Test, test, tested}
 use Rattle.terms.specs.Held.{_∈_, Held, isRule, isMark}
 use Rattle.terms.specs.Same.{sameRule, sameMark, same-rule, rule-same, same-mark, mark-same}
 use Rattle.terms.specs.Lists.{some, every, strike, once, depthCount}
 use Rattle.line.specs.Cuts.{insert, insert-length, insert-has, insert-keeps, insert-asc, insert-again, depthsOf, depths-only}
-pub use Rattle.decide.specs.Within.{some-in, in-some, every-in, in-every, strike-in, strike-short, once-snoc, once-strike, Within, within, limited, in-range}
+pub use Rattle.terms.specs.Limited.{
+  some-in,
+  in-some,
+  every-in,
+  in-every,
+  strike-in,
+  strike-short,
+  once-snoc,
+  once-strike,
+  Limited,
+  limited,
+  of-limited,
+  in-range,
+}
 pub use Rattle.decide.specs.Count.{depths-asc, depths-in, within-length, marksAt, depth-some, some-depth, depth-count, few-cuts}
 use Rattle.state.specs.Changes.{ruleTests, putTests, addRule, putMark, takeMark, emptyHeld}
 
 -- ---- a test that does not apply
 
-pub passed : (b : Bool) (n : ℕ) (ts : List Test) → lowest (test b (suc n) ∷ ts) ≡ 0 → T (not b) × (lowest ts ≡ 0)
-passed true n ts e = let z : ⊥ = omega arith in absurd z
+pub passed : (b : Bool) (n : ℕ) (ts : List Test) → tested (test b n ∷ ts) ≡ Tested.Passed → T (not b) × (tested ts ≡ Tested.Passed)
+passed true n ts e = let z : _≡_ {A = ℕ} 0 1 = cc in let w : ⊥ = omega arith in absurd w
 passed false n ts e = (tt, e)
 
 every-snoc : {X : Type 0} (f : X → Bool) (xs : List X) (x : X) → T (every f xs) → T (f x) → T (every f (xs ++ (x ∷ [])))
@@ -56,14 +70,14 @@ depths-taken f ms =
 
 -- ---- each record
 
-pub empty-within : Within emptyHeld
+pub empty-limited : Limited emptyHeld
 unfolding every once depthCount
-empty-within = record { few-rules = omega arith; few-marks = omega arith; few-depths = omega arith; rules = tt; marks = tt; once-rules = tt; once-marks = tt }
+empty-limited = record { few-rules = omega arith; few-marks = omega arith; few-depths = omega arith; rules = tt; marks = tt; once-rules = tt; once-marks = tt; settings = tt }
 
-pub added-within : (h : Held) (ρ : Rule) → Within h → T (isRule ρ) → lowest (ruleTests h ρ) ≡ 0 → Within (addRule h ρ)
-added-within h ρ w p e =
-    let t = passed (some (sameRule ρ) (h .rules)) 8 (test (leb RULES (length (h .rules))) 11 ∷ []) e in
-    let u = passed (leb RULES (length (h .rules))) 10 [] (t .1) in
+pub added-limited : (h : Held) (ρ : Rule) → Limited h → T (isRule ρ) → tested (ruleTests h ρ) ≡ Tested.Passed → Limited (addRule h ρ)
+added-limited h ρ w p e =
+    let t = passed (some (sameRule ρ) (h .rules)) 9 (test (leb RULES (length (h .rules))) 11 ∷ []) e in
+    let u = passed (leb RULES (length (h .rules))) 11 [] (t .1) in
     record {
       few-rules = simp length-append (omega (arith, nleb→lt RULES (length (h .rules)) (u .0)));
       few-marks = w .few-marks;
@@ -72,15 +86,16 @@ added-within h ρ w p e =
       marks = w .marks;
       once-rules = once-snoc sameRule same-rule rule-same (h .rules) ρ (w .once-rules) (t .0);
       once-marks = w .once-marks;
+      settings = w .settings;
     }
 
-pub put-within : (h : Held) (m : Mark) → Within h → T (isMark m) → lowest (putTests h m) ≡ 0 → Within (putMark h m)
-put-within h m w p e =
+pub put-limited : (h : Held) (m : Mark) → Limited h → T (isMark m) → tested (putTests h m) ≡ Tested.Passed → Limited (putMark h m)
+put-limited h m w p e =
     let full = test (leb MARKS (length (h .marks))) 11 in
     let deep = test (not (some (marksAt (m .depth)) (h .marks)) && leb DEPTHS (depthCount (h .marks))) 12 in
-    let t = passed (some (sameMark m) (h .marks)) 8 (full ∷ deep ∷ []) e in
-    let u = passed (leb MARKS (length (h .marks))) 10 (deep ∷ []) (t .1) in
-    let v = passed (not (some (marksAt (m .depth)) (h .marks)) && leb DEPTHS (depthCount (h .marks))) 11 [] (u .1) in
+    let t = passed (some (sameMark m) (h .marks)) 9 (full ∷ deep ∷ []) e in
+    let u = passed (leb MARKS (length (h .marks))) 11 (deep ∷ []) (t .1) in
+    let v = passed (not (some (marksAt (m .depth)) (h .marks)) && leb DEPTHS (depthCount (h .marks))) 12 [] (u .1) in
     record {
       few-rules = w .few-rules;
       few-marks = simp length-append (omega (arith, nleb→lt MARKS (length (h .marks)) (u .0)));
@@ -89,10 +104,11 @@ put-within h m w p e =
       marks = every-snoc isMark (h .marks) m (w .marks) p;
       once-rules = w .once-rules;
       once-marks = once-snoc sameMark same-mark mark-same (h .marks) m (w .once-marks) (t .0);
+      settings = w .settings;
     }
 
-pub taken-within : (h : Held) (m : Mark) → Within h → Within (takeMark h m)
-taken-within h m w = record {
+pub taken-limited : (h : Held) (m : Mark) → Limited h → Limited (takeMark h m)
+taken-limited h m w = record {
   few-rules = w .few-rules;
   few-marks = omega (arith, strike-short (sameMark m) (h .marks), w .few-marks);
   few-depths = omega (arith, depths-taken (sameMark m) (h .marks), w .few-depths);
@@ -100,4 +116,5 @@ taken-within h m w = record {
   marks = in-every isMark (strike (sameMark m) (h .marks)) (λ k n. every-in isMark (h .marks) (w .marks) k (strike-in (sameMark m) (h .marks) n));
   once-rules = w .once-rules;
   once-marks = once-strike sameMark same-mark mark-same (sameMark m) (h .marks) (w .once-marks);
+  settings = w .settings;
 }

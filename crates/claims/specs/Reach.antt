@@ -3,16 +3,18 @@ use mathlib.Core.Path.{_≡_, refl, sym, ap, _∙_, subst}
 use mathlib.Core.Logic.{_⊎_, ⊎-elim, _↔_}
 use mathlib.Core.Bool.{Bool, true, false, not, _&&_, _||_}
 use mathlib.Core.List.{List, [], _∷_, _++_, append-assoc, append-nil, List·Memᴰ·head, List·Memᴰ·tail, Memᴰ·append-left, Memᴰ·append-right}
-use Prim.Native.Nat.{ℕ, zero, suc, _≤_, _<_, _+_}
+use Prim.Native.Nat.{ℕ, suc, _≤_, _<_, _+_}
 use native.Mathlib.Omega.{arith}
 use lib.Dec.{T, ltb, leb, ltb→lt, leb→le}
 use lib.IntN.{ℤ, pos}
-use lib.ListN.{length, take, drop, replicate, length-append, take-append-drop}
+use lib.ListN.{length, take, drop, replicate, length-append, length-replicate, take-append-drop}
 use Rattle.terms.specs.declared.Rule.{Rule}
 use Rattle.terms.specs.declared.Mark.{Mark}
 use Rattle.terms.specs.Tests.{and-both, false-of}
-use Rattle.terms.specs.Limits.{RULES, MARKS, DEPTHS}
-use Rattle.terms.specs.Refusals.{lowest}
+use Rattle.terms.specs.Limits.{RULES, MARKS, DEPTHS, LABEL-ENTRIES, LINK-ENTRIES, SPAN-NUMBERS}
+use Rattle.terms.specs.declared.Settings.{Settings}
+use Rattle.terms.specs.declared.Tested.the-variants as Tested
+use Rattle.terms.specs.Refusals.{tested}
 use Rattle.terms.specs.Held.{_∈_, Held, isRule, isMark}
 use Rattle.terms.specs.Same.{sameRule, sameMark, same-rule, rule-same, same-mark, mark-same, depth-same}
 use Rattle.terms.specs.Lists.{some, once, depthCount, limits}
@@ -22,11 +24,10 @@ use Rattle.block.specs.Layout.{zeros}
 use Rattle.block.specs.Block.{SIZE, encode, good}
 use Rattle.records.specs.declared.Command.{Command}
 use Rattle.records.specs.declared.Command.the-variants as Command
-use Rattle.records.specs.declared.Parsed.{Parsed}
-use Rattle.records.specs.declared.Parsed.the-variants as Parsed
+use Rattle.records.specs.Parsed as Parsed
 use Rattle.records.specs.Records.{parse}
 use Rattle.service.specs.Call.{Outcome, Changed, listTests, obey}
-use Rattle.claims.specs.Kept.{in-some, every-in, Within, within, limited, empty-within, within-length, depths-asc, depths-in, depth-count, marksAt}
+use Rattle.claims.specs.Kept.{in-some, every-in, Limited, limited, of-limited, empty-limited, within-length, depths-asc, depths-in, depth-count, marksAt}
 use Rattle.claims.specs.Reference.{Result, outcome, Book, changed, Lending, fed}
 use Rattle.claims.specs.Life.{Event, Record, memAfter, memories, Laws, call-then, ends}
 
@@ -53,35 +54,32 @@ pub record Run-to (b : List ℕ) : Type 0 where
 
 -- buffers that are long enough, shut so that they are not written out
 labels-lent : List ℕ
-labels-lent = replicate 3088 0
+labels-lent = replicate LABEL-ENTRIES 0
 
 links-lent : List ℕ
-links-lent = replicate 49408 0
+links-lent = replicate LINK-ENTRIES 0
 
 spans-lent : List ℤ
-spans-lent = replicate 194 (pos 0)
+spans-lent = replicate SPAN-NUMBERS (pos 0)
 
-length-replicate : {X : Type 0} (n : ℕ) (x : X) → length (replicate n x) ≡ n
-length-replicate zero x = refl
-length-replicate (suc n) x = ap suc (length-replicate n x)
-
-length-labels : length labels-lent ≡ 3088
+length-labels : length labels-lent ≡ LABEL-ENTRIES
 unfolding labels-lent
-length-labels = length-replicate {X = ℕ} 3088 0
+length-labels = length-replicate {A = ℕ} LABEL-ENTRIES 0
 
-length-links : length links-lent ≡ 49408
+length-links : length links-lent ≡ LINK-ENTRIES
 unfolding links-lent
-length-links = length-replicate {X = ℕ} 49408 0
+length-links = length-replicate {A = ℕ} LINK-ENTRIES 0
 
-length-spans : length spans-lent ≡ 194
+length-spans : length spans-lent ≡ SPAN-NUMBERS
 unfolding spans-lent
-length-spans = length-replicate 194 (pos 0)
+length-spans = length-replicate SPAN-NUMBERS (pos 0)
 
--- a record that says a command
-pub record Written (c : Command) : Type 0 where
+-- a record that says a command under the settings
+pub record Written (σ : Settings) (c : Command) : Type 0 where
   pub bytes : List ℕ
+  pub body : List ℕ
   pub used : ℕ
-  pub reads : parse bytes ≡ Parsed.Command c used
+  pub reads : parse σ bytes ≡ Parsed.Record c body used
 
 -- in a list without doubles nothing before an element is like it
 not-before : {X : Type 0} (alike : X → X → Bool) → ((x y : X) → T (alike x y) → x ≡ y) → ((x : X) → T (alike x x)) → (done : List X) (x : X) (todo : List X) → T (once alike (done ++ (x ∷ todo))) → some (alike x) done ≡ false
@@ -123,75 +121,90 @@ room done todo m h = go (some (marksAt (m .depth)) done) (λ n. old n)
         let w = within-length (insert (m .depth) (depthsOf done)) (depthsOf (done ++ (m ∷ todo))) (insert-asc (m .depth) (depthsOf done) (depths-asc done)) (depths-asc (done ++ (m ∷ todo))) all in
         below DEPTHS (depthCount done) (omega (arith, more f (inserted (m .depth) (depthsOf done)), depth-count done, depth-count (done ++ (m ∷ todo))))
 
-module _ (𝓛 : Laws) (rule-record : (ρ : Rule) → T (isRule ρ) → Written (Command.Add ρ)) (mark-record : (m : Mark) → T (isMark m) → Written (Command.Put m)) where
+module _ (𝓛 : Laws) (rule-record : (σ : Settings) (ρ : Rule) → T (isRule ρ) → Written σ (Command.Add ρ)) (mark-record : (σ : Settings) (m : Mark) → T (isMark m) → Written σ (Command.Put m)) where
   record Reached (h : Held) : Type 0 where
     events : List Event
-    held : Within h
+    held : Limited h
     memory : memories (zeros SIZE) events ≡ encode h
 
   abbrev lending : Lending
   lending = record { labels = labels-lent; links = links-lent; spans = spans-lent; lend = SIZE; behind = [] }
 
-  one-more-record : (h k : Held) (c : Command) → Written c → lowest (listTests h c) ≡ 0 → ((u : ℕ) → obey h c u ≡ Changed k u) → Reached h → Reached k
+  one-more-record :
+      (h k : Held) (c : Command) (w : Written (h .settings) c) → tested (listTests h c (w .body)) ≡ Tested.Passed →
+      ((u : ℕ) → obey h c (w .body) u ≡ Changed k u) → Reached h → Reached k
   one-more-record h k c w e f R =
-      let a = not-short (length labels-lent) 3088 (omega (arith, length-labels)) in
-      let b = not-short (length links-lent) 49408 (omega (arith, length-links)) in
-      let d = not-short (length spans-lent) 194 (omega (arith, length-spans)) in
+      let a = not-short (length labels-lent) LABEL-ENTRIES (omega (arith, length-labels)) in
+      let b = not-short (length links-lent) LINK-ENTRIES (omega (arith, length-links)) in
+      let d = not-short (length spans-lent) SPAN-NUMBERS (omega (arith, length-spans)) in
       let o : outcome h (fed lending (w .bytes)) ≡ Changed k (w .used) = rw (a, b, d, w .reads, e) (f (w .used)) in
       let A = call-then 𝓛 h (R .held) (memories (zeros SIZE) (R .events)) (R .memory) lending (w .bytes) in
       let q : A .holds-then ≡ k = then-is (book-at o (A .book)) in
       record {
         events = R .events ++ (Record lending (w .bytes) ∷ []);
-        held = subst Within q (A .limits-then);
+        held = subst Limited q (A .limits-then);
         memory = memories-snoc (zeros SIZE) (R .events) (Record lending (w .bytes)) ∙ (A .memory ∙ ap encode q);
       }
 
-  -- ---- rules, then marks, one by one
+  -- ---- the settings, then the rules, then the marks, one by one
 
-  abbrev ofRules : List Rule → Held
-  ofRules rs = record { rules = rs; marks = []; settings = tt }
+  abbrev of-parts : Settings → List Rule → List Mark → Held
+  of-parts σ rs ms = record { rules = rs; marks = ms; settings = σ }
 
-  reach-rules : (done todo : List Rule) → T (once sameRule (done ++ todo)) → ((ρ : Rule) → ρ ∈ todo → T (isRule ρ)) → length done + length todo ≤ RULES → Reached (ofRules done) → Reached (ofRules (done ++ todo))
-  reach-rules done [] o p n R = subst (λ v. Reached (ofRules v)) (sym (append-nil done)) R
-  reach-rules done (ρ ∷ todo) o p n R =
-      let a = not-before sameRule same-rule rule-same done ρ todo o in
-      let b = below RULES (length done) (omega arith) in
-      let s = one-more-record (ofRules done) (ofRules (done ++ (ρ ∷ []))) (Command.Add ρ) (rule-record ρ (p ρ (List·Memᴰ·head refl))) (rw (a, b)) (λ u. refl) R in
-      subst (λ v. Reached (ofRules v)) (append-assoc done (ρ ∷ []) todo)
-      (reach-rules (done ++ (ρ ∷ [])) todo (subst (λ v. T (once sameRule v)) (sym (append-assoc done (ρ ∷ []) todo)) o) (λ σ m. p σ (List·Memᴰ·tail m)) (simp length-append (omega arith)) s)
+  -- nothing is set yet, so that no record is needed
+  reach-settings : (σ : Settings) → Reached (of-parts σ [] [])
+  reach-settings σ = record { events = []; held = empty-limited; memory = sym (𝓛 .encode-empty) }
 
-  module _ (rs : List Rule) where
-    abbrev ofMarks : List Mark → Held
-    ofMarks ms = record { rules = rs; marks = ms; settings = tt }
+  module _ (σ : Settings) where
+    reach-rules :
+        (done todo : List Rule) → T (once sameRule (done ++ todo)) → ((ρ : Rule) → ρ ∈ todo → T (isRule ρ)) → length done + length todo ≤ RULES →
+        Reached (of-parts σ done []) → Reached (of-parts σ (done ++ todo) [])
+    reach-rules done [] o p n R = subst (λ v. Reached (of-parts σ v [])) (sym (append-nil done)) R
+    reach-rules done (ρ ∷ todo) o p n R =
+        let a = not-before sameRule same-rule rule-same done ρ todo o in
+        let b = below RULES (length done) (omega arith) in
+        let w = rule-record σ ρ (p ρ (List·Memᴰ·head refl)) in
+        let s = one-more-record (of-parts σ done []) (of-parts σ (done ++ (ρ ∷ [])) []) (Command.Add ρ) w (rw (a, b)) (λ u. refl) R in
+        let e = append-assoc done (ρ ∷ []) todo in
+        subst (λ v. Reached (of-parts σ v [])) e
+        (reach-rules (done ++ (ρ ∷ [])) todo (subst (λ v. T (once sameRule v)) (sym e) o) (λ τ m. p τ (List·Memᴰ·tail m)) (simp length-append (omega arith)) s)
 
-    reach-marks : (done todo : List Mark) → T (once sameMark (done ++ todo)) → ((m : Mark) → m ∈ todo → T (isMark m)) → length done + length todo ≤ MARKS → depthCount (done ++ todo) ≤ DEPTHS → Reached (ofMarks done) → Reached (ofMarks (done ++ todo))
-    reach-marks done [] o p n k R = subst (λ v. Reached (ofMarks v)) (sym (append-nil done)) R
-    reach-marks done (m ∷ todo) o p n k R =
-        let a = not-before sameMark same-mark mark-same done m todo o in
-        let b = below MARKS (length done) (omega arith) in
-        let c = room done todo m k in
-        let s = one-more-record (ofMarks done) (ofMarks (done ++ (m ∷ []))) (Command.Put m) (mark-record m (p m (List·Memᴰ·head refl))) (rw (a, b, c)) (λ u. refl) R in
-        subst (λ v. Reached (ofMarks v)) (append-assoc done (m ∷ []) todo)
-        (reach-marks (done ++ (m ∷ [])) todo (subst (λ v. T (once sameMark v)) (sym (append-assoc done (m ∷ []) todo)) o) (λ σ q. p σ (List·Memᴰ·tail q)) (simp length-append (omega arith))
-        (subst (λ v. depthCount v ≤ DEPTHS) (sym (append-assoc done (m ∷ []) todo)) k) s)
+    module _ (rs : List Rule) where
+      reach-marks :
+          (done todo : List Mark) → T (once sameMark (done ++ todo)) → ((m : Mark) → m ∈ todo → T (isMark m)) → length done + length todo ≤ MARKS →
+          depthCount (done ++ todo) ≤ DEPTHS → Reached (of-parts σ rs done) → Reached (of-parts σ rs (done ++ todo))
+      reach-marks done [] o p n k R = subst (λ v. Reached (of-parts σ rs v)) (sym (append-nil done)) R
+      reach-marks done (m ∷ todo) o p n k R =
+          let a = not-before sameMark same-mark mark-same done m todo o in
+          let b = below MARKS (length done) (omega arith) in
+          let c = room done todo m k in
+          let w = mark-record σ m (p m (List·Memᴰ·head refl)) in
+          let s = one-more-record (of-parts σ rs done) (of-parts σ rs (done ++ (m ∷ []))) (Command.Put m) w (rw (a, b, c)) (λ u. refl) R in
+          let e = append-assoc done (m ∷ []) todo in
+          subst (λ v. Reached (of-parts σ rs v)) e
+          (reach-marks (done ++ (m ∷ [])) todo (subst (λ v. T (once sameMark v)) (sym e) o) (λ τ q. p τ (List·Memᴰ·tail q))
+          (simp length-append (omega arith)) (subst (λ v. depthCount v ≤ DEPTHS) (sym e) k) s)
 
-  reachable : (h : Held) → Within h → Reached h
+  reachable : (h : Held) → Limited h → Reached h
   reachable h w =
-      reach-marks (h .rules) [] (h .marks) (w .once-marks) (λ m n. every-in isMark (h .marks) (w .marks) m n) (omega (arith, w .few-marks)) (w .few-depths)
-      (reach-rules [] (h .rules) (w .once-rules) (λ ρ n. every-in isRule (h .rules) (w .rules) ρ n) (omega (arith, w .few-rules)) (record { events = []; held = empty-within; memory = sym (𝓛 .encode-empty) }))
+      let σ = h .settings in
+      reach-marks σ (h .rules) [] (h .marks) (w .once-marks) (λ m n. every-in isMark (h .marks) (w .marks) m n) (omega (arith, w .few-marks)) (w .few-depths)
+      (reach-rules σ [] (h .rules) (w .once-rules) (λ ρ n. every-in isRule (h .rules) (w .rules) ρ n) (omega (arith, w .few-rules)) (reach-settings σ))
 
   -- 01, Where a record is turned away: number 2 is for a block that no run of records from all zeros leads to
-  pub good-exactly : (read : (b : List ℕ) → SIZE ≤ length b → T (good b) → (h : Held) × T (limits h) × (take SIZE b ≡ encode h)) (b : List ℕ) → SIZE ≤ length b → T (good b) ↔ Run-to (take SIZE b)
+  pub good-exactly :
+      (read : (b : List ℕ) → SIZE ≤ length b → T (good b) → (h : Held) × T (limits h) × (take SIZE b ≡ encode h)) (b : List ℕ) →
+      SIZE ≤ length b → T (good b) ↔ Run-to (take SIZE b)
   good-exactly read b l = (there, back)
     where
       there : T (good b) → Run-to (take SIZE b)
       there t =
           let (h, w, e) = read b l t in
-          let R = reachable h (within h w) in
+          let R = reachable h (limited h w) in
           record { events = R .events; leads = R .memory ∙ sym e }
 
       back : Run-to (take SIZE b) → T (good b)
       back R =
-          let (k, w, e) = ends 𝓛 (R .events) emptyHeld (zeros SIZE) empty-within (sym (𝓛 .encode-empty)) in
+          let (k, w, e) = ends 𝓛 (R .events) emptyHeld (zeros SIZE) empty-limited (sym (𝓛 .encode-empty)) in
           let f : b ≡ encode k ++ drop SIZE b = sym (take-append-drop SIZE b) ∙ ap (λ x. x ++ drop SIZE b) (sym (R .leads) ∙ e) in
-          subst (λ x. T (good x)) (sym f) (𝓛 .good-encode k (drop SIZE b) (limited k w))
+          subst (λ x. T (good x)) (sym f) (𝓛 .good-encode k (drop SIZE b) (of-limited k w))

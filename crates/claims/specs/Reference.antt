@@ -11,8 +11,9 @@ use Rattle.terms.specs.Held.{Held}
 use Rattle.block.specs.Block.{SIZE}
 use Rattle.records.specs.Records.{parse}
 use Rattle.spans.specs.Runs.{flat}
-use Rattle.decide.specs.Decide.{Question, Yes, No, Spans, Reply, Contradiction, Answered, Decides, at-most-one}
-use Rattle.service.specs.Call.{Buffers, lent, After, isShort, Outcome, Turned, Over, Changed, Asked, judged}
+use Rattle.terms.specs.declared.Question.{Question}
+use Rattle.decide.specs.Decide.{Yes, No, Spans, Reply, Contradiction, Answered, Decides, at-most-one}
+use Rattle.service.specs.Call.{Buffers, lent, After, isShort, Outcome, Refused, Ended, Changed, Asked, judged}
 
 -- 01, The book: what it is fed from a record call
 pub record Fed : Type 0 where
@@ -39,19 +40,19 @@ shown (Answered (Spans rs)) u = record { answer = Answer.Spans (length rs); used
 
 -- 01, The book: the lowest number that applies, where held means in the book; 2 doesn't arise
 abbrev pub outcome : Held → Fed → Outcome
-outcome h f = cond (isShort (f .block) (f .labels) (f .links) (f .spans)) (Turned 1 0) (judged h (parse (f .bytes)))
+outcome h f = cond (isShort (f .block) (f .labels) (f .links) (f .spans)) (Refused 1 0) (judged h (parse (h .settings) (f .bytes)))
 
 -- 01, The book: its result of a call, and what it holds then; questions are decided by interpretations
 pub data Book (h : Held) : Outcome → Result → Held → Type 0 where
-  turned : {n u : ℕ} → Book h (Turned n u) (plain (Answer.Refused n) u) h
-  over : Book h Over (plain Answer.End 0) h
+  refused : {n u : ℕ} → Book h (Refused n u) (plain (Answer.Refused n) u) h
+  ended : Book h Ended (plain Answer.End 0) h
   changed : {k : Held} {u : ℕ} → Book h (Changed k u) (plain Answer.Done u) k
   asked : {q : Question} {u : ℕ} (r : Reply) → Decides h q r → Book h (Asked q u) (shown r u) h
 
 -- it has one result for each call, and holds one thing then
 pub book-one : {h : Held} {o : Outcome} {r s : Result} {k l : Held} → Book h o r k → Book h o s l → (r ≡ s) × (k ≡ l)
-book-one turned turned = (refl, refl)
-book-one over over = (refl, refl)
+book-one refused refused = (refl, refl)
+book-one ended ended = (refl, refl)
 book-one changed changed = (refl, refl)
 book-one {h} (asked {q = q} {u = u} r d) (asked s e) = (ap (λ w. shown w u) (at-most-one h q r s d e), refl)
 
@@ -73,7 +74,13 @@ abbrev pub kept : List ℕ → Lending → List ℕ → List ℕ
 kept mem c b = take SIZE (b ++ drop (c .lend) (mem ++ c .behind))
 
 abbrev pub fed : Lending → List ℕ → Fed
-fed c s = record { bytes = s; block = min (c .lend) (SIZE + length (c .behind)); labels = length (c .labels); links = length (c .links); spans = length (c .spans) }
+fed c s = record {
+  bytes = s;
+  block = min (c .lend) (SIZE + length (c .behind));
+  labels = length (c .labels);
+  links = length (c .links);
+  spans = length (c .spans);
+}
 
 -- the pairs that an answer says it wrote
 abbrev pub pairsOf : Answer → List ℤ → List ℤ

@@ -1,19 +1,19 @@
 -- Demand 1, about the record call: a refusal changes nothing, and what each answer leaves. Assumes nothing.
 use mathlib.Core.Path.{_≡_, refl}
-use mathlib.Core.Bool.{Bool, true, false, cond}
 use mathlib.Core.List.{List}
-use Prim.Native.Nat.{ℕ, _-_}
+use Prim.Native.Nat.{ℕ}
 use native.Mathlib.Omega.{arith}
-use lib.Dec.{eqb}
 use lib.ListN.{length}
 use Rattle.terms.specs.declared.Answer.{Answer}
 use Rattle.terms.specs.declared.Answer.the-variants as Answer
-use Rattle.terms.specs.Refusals.{lowest}
+use Rattle.terms.specs.declared.Tested.{Tested}
+use Rattle.terms.specs.declared.Tested.the-variants as Tested
+use Rattle.terms.specs.Refusals.{tested, onTested}
 use Rattle.terms.specs.Held.{Held}
 use Rattle.block.specs.Block.{readHeld}
 use Rattle.records.specs.Records.{parse}
 use Rattle.decide.specs.Decide.{Yes, No, Spans, Reply, Contradiction, Answered, answer}
-use Rattle.service.specs.Call.{Buffers, after, lentTests, Outcome, Turned, Over, Changed, Asked, judged, replied, effect, call}
+use Rattle.service.specs.Call.{Buffers, after, lentTests, Outcome, Refused, Ended, Changed, Asked, judged, replied, effect, call}
 
 -- ---- what an answer leaves
 
@@ -27,20 +27,24 @@ replied-refused h m u n (Answered No) e = clash (cc)
 replied-refused h m u n (Answered (Spans rs)) e = clash (cc)
 
 effect-refused : (h : Held) (m : Buffers) (o : Outcome) (n : ℕ) → effect h m o .answer ≡ Answer.Refused n → effect h m o .buffers ≡ m
-effect-refused h m (Turned k u) n e = refl
-effect-refused h m Over n e = refl
+effect-refused h m (Refused k u) n e = refl
+effect-refused h m Ended n e = refl
 effect-refused h m (Changed k u) n e = clash (cc)
 effect-refused h m (Asked q u) n e = replied-refused h m u n (answer h q) e
 
 -- 01, Where a record is turned away: refusals leave all lent memory unchanged
 pub refused-keeps : (m : Buffers) (s : List ℕ) (n : ℕ) → call m s .answer ≡ Answer.Refused n → call m s .buffers ≡ m
 unfolding call
-refused-keeps m s n = go (eqb (lowest (lentTests m)) 0)
+refused-keeps m s n = go (tested (lentTests m))
   where
-    go : (b : Bool) → cond b (effect (readHeld (m .block)) m (judged (readHeld (m .block)) (parse s))) (after (Answer.Refused (lowest (lentTests m))) 0 m) .answer ≡ Answer.Refused n
-        → cond b (effect (readHeld (m .block)) m (judged (readHeld (m .block)) (parse s))) (after (Answer.Refused (lowest (lentTests m))) 0 m) .buffers ≡ m
-    go true e = effect-refused (readHeld (m .block)) m (judged (readHeld (m .block)) (parse s)) n e
-    go false e = refl
+    h : Held
+    h = readHeld (m .block)
+
+    go :
+        (t : Tested) → let r = onTested (effect h m (judged h (parse (h .settings) s))) (λ n. after (Answer.Refused n) 0 m) t in
+        r .answer ≡ Answer.Refused n → r .buffers ≡ m
+    go Tested.Passed e = effect-refused h m (judged h (parse (h .settings) s)) n e
+    go (Tested.Refused k) e = refl
 
 -- what an answer keeps: only done changes the block, only questions change the tables, only spans write the span buffer
 pub record Keeps (a : Answer) (m after : Buffers) : Type 0 where
@@ -56,15 +60,20 @@ reply-keeps h m u (Answered No) = record { block = λ f. refl; tables = λ e. cl
 reply-keeps h m u (Answered (Spans rs)) = record { block = λ f. refl; tables = λ e. clash (cc); spans = λ f. absurd (f (length rs) refl); ended = λ e. clash (cc) }
 
 effect-keeps : (h : Held) (m : Buffers) (o : Outcome) → Keeps (effect h m o .answer) m (effect h m o .buffers)
-effect-keeps h m (Turned n u) = record { block = λ f. refl; tables = λ e. clash (cc); spans = λ f. refl; ended = λ e. refl }
-effect-keeps h m Over = record { block = λ f. refl; tables = λ e. clash (cc); spans = λ f. refl; ended = λ e. refl }
+effect-keeps h m (Refused n u) = record { block = λ f. refl; tables = λ e. clash (cc); spans = λ f. refl; ended = λ e. refl }
+effect-keeps h m Ended = record { block = λ f. refl; tables = λ e. clash (cc); spans = λ f. refl; ended = λ e. refl }
 effect-keeps h m (Changed k u) = record { block = λ f. absurd (f refl); tables = λ e. (refl, refl); spans = λ f. refl; ended = λ e. clash (cc) }
 effect-keeps h m (Asked q u) = reply-keeps h m u (answer h q)
 
 pub call-keeps : (m : Buffers) (s : List ℕ) → Keeps (call m s .answer) m (call m s .buffers)
 unfolding call
-call-keeps m s = go (eqb (lowest (lentTests m)) 0)
+call-keeps m s = go (tested (lentTests m))
   where
-    go : (b : Bool) → Keeps (cond b (effect (readHeld (m .block)) m (judged (readHeld (m .block)) (parse s))) (after (Answer.Refused (lowest (lentTests m))) 0 m) .answer) m (cond b (effect (readHeld (m .block)) m (judged (readHeld (m .block)) (parse s))) (after (Answer.Refused (lowest (lentTests m))) 0 m) .buffers)
-    go true = effect-keeps (readHeld (m .block)) m (judged (readHeld (m .block)) (parse s))
-    go false = record { block = λ f. refl; tables = λ e. clash (cc); spans = λ f. refl; ended = λ e. refl }
+    h : Held
+    h = readHeld (m .block)
+
+    go :
+        (t : Tested) → let r = onTested (effect h m (judged h (parse (h .settings) s))) (λ n. after (Answer.Refused n) 0 m) t in
+        Keeps (r .answer) m (r .buffers)
+    go Tested.Passed = effect-keeps h m (judged h (parse (h .settings) s))
+    go (Tested.Refused k) = record { block = λ f. refl; tables = λ e. clash (cc); spans = λ f. refl; ended = λ e. refl }

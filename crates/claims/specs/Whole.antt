@@ -8,8 +8,10 @@ use native.Mathlib.Omega.{arith}
 use lib.Dec.{T}
 use lib.ListN.{length, take}
 use Rattle.terms.specs.declared.Answer.the-variants as Answer
+use Rattle.terms.specs.declared.Settings.{Settings}
 use Rattle.terms.specs.Tests.{true-of, of-true}
-use Rattle.terms.specs.Refusals.{lowest}
+use Rattle.terms.specs.declared.Tested.the-variants as Tested
+use Rattle.terms.specs.Refusals.{tested}
 use Rattle.terms.specs.Held.{Held}
 use Rattle.state.specs.Changes.{emptyHeld}
 use Rattle.block.specs.Layout.{zeros}
@@ -17,22 +19,21 @@ use Rattle.block.specs.Block.{SIZE, encode, readHeld, good, unreadable, holds, 
 use Rattle.block.proofs.Round.{length-encode, encode-empty, read-encode, decode-encode, decode-holds}
 use Rattle.records.specs.declared.Command.{Command}
 use Rattle.records.specs.declared.Command.the-variants as Command
-use Rattle.records.specs.Proper.{Proper, parse-proper, write, parse-write}
+use Rattle.records.specs.Proper.{Proper, parse-proper, isChange, changeBody, write, parse-write}
 use Rattle.service.specs.Call.{Buffers, short, listTests, obey, call}
 use Rattle.claims.specs.Refused.{two-by-block}
 use Rattle.service.specs.Code.{enough}
-use Rattle.claims.specs.Kept.{Within, empty-within, added-within, put-within, taken-within}
-use Rattle.claims.specs.Life.{Event, Agrees, Keeps, Laws, lived}
-use Rattle.claims.specs.Reach.{Run-to, good-exactly}
+use Rattle.claims.specs.Kept.{Limited, empty-limited, added-limited, put-limited, taken-limited}
+use Rattle.claims.specs.Life.{Event, Agrees, Stays-limited, Laws, lived}
+use Rattle.claims.specs.Reach.{Run-to, Written, good-exactly}
 
 -- an accepted command keeps the limits
-accepted : (h : Held) (c : Command) (u : ℕ) → Within h → T (Proper c) → lowest (listTests h c) ≡ 0 → Keeps (obey h c u)
-accepted h Command.Reset u w p e = empty-within
-accepted h (Command.Add ρ) u w p e = added-within h ρ w p e
-accepted h (Command.Put m) u w p e = put-within h m w p e
-accepted h (Command.Take m) u w p e = taken-within h m w
-accepted h (Command.Ask x i) u w p e = tt
-accepted h (Command.Spans a A) u w p e = tt
+accepted : (h : Held) (c : Command) (b : List ℕ) (u : ℕ) → Limited h → T (Proper c) → tested (listTests h c b) ≡ Tested.Passed → Stays-limited (obey h c b u)
+accepted h Command.Reset b u w p e = empty-limited
+accepted h (Command.Add ρ) b u w p e = added-limited h ρ w p e
+accepted h (Command.Put m) b u w p e = put-limited h m w p e
+accepted h (Command.Take m) b u w p e = taken-limited h m w
+accepted h (Command.Ask q) b u w p e = tt
 
 -- a block that decodes is good
 good-of : (b : List ℕ) (h : Held) → decode b ≡ holds h → T (good b)
@@ -50,7 +51,7 @@ laws = record {
   encode-empty = encode-empty;
   read-encode = λ h t l. read-encode h l t;
   good-encode = λ h t l. good-of (encode h ++ t) h (decode-encode h l t);
-  accepted = λ h s c u w p e. accepted h c u w (parse-proper s c u p) e;
+  accepted = λ h s c b u w p e. accepted h c b u w (parse-proper (h .settings) s c b u p) e;
 }
 
 decoded : (b : List ℕ) → T (good b) → decode b ≡ holds (readHeld b)
@@ -61,12 +62,16 @@ decoded b t = ap (λ g. cond g (holds (readHeld b)) unreadable) (true-of (good b
 pub whole-life : (es : List Event) → Agrees emptyHeld (zeros SIZE) es
 whole-life es = lived laws es
 
+-- a change in range is said by some record
+written : (σ : Settings) (c : Command) → T (isChange c) → Written σ c
+written σ c p = record { bytes = write c; body = changeBody c; used = length (write c); reads = parse-write σ c p }
+
 -- 01, Where a record is turned away: a block long enough gives number 2 exactly if no run of records from all zeros leads to it
 pub reached-exactly : (b : List ℕ) → SIZE ≤ length b → T (good b) ↔ Run-to (take SIZE b)
 reached-exactly b l =
     good-exactly laws
-    (λ ρ p. record { bytes = write (Command.Add ρ); used = length (write (Command.Add ρ)); reads = parse-write (Command.Add ρ) p })
-    (λ m p. record { bytes = write (Command.Put m); used = length (write (Command.Put m)); reads = parse-write (Command.Put m) p })
+    (λ σ ρ p. written σ (Command.Add ρ) p)
+    (λ σ m p. written σ (Command.Put m) p)
     (λ b l t. let w = decode-holds b (readHeld b) (decoded b t) in (readHeld b, w .0, w .1))
     b l
 

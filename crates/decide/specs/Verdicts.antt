@@ -92,7 +92,7 @@ module _ (h : Held) (few : length (cutsOf h) ≤ CUTS) where
   never-is : (t : List ℕ) (a : ℕ) → a < ITEMS → neverIn (labelTable h ++ t) a ≡ clashes h (model h) a
   never-is t a l =
       any-same INTERVALS (hasLabel (labelTable h ++ t) a NEVER) (λ p. mem (fact (Has a NEVER) p) (model h)) (λ p b. label-bit t a NEVER p l (omega arith) b)
-      ∙ any-more INTERVALS (count h) (λ p. mem (fact (Has a NEVER) p) (model h)) (λ p b. behind-absent h few (Has a NEVER) p (omega arith)) (omega arith)
+      ∙ any-more INTERVALS (count h) (λ p. mem (fact (Has a NEVER) p) (model h)) (λ p b. behind-absent h (Has a NEVER) p (omega arith)) (omega arith)
 
   lowest-same : (n a : ℕ) (f g : ℕ → Bool) → ((b : ℕ) → b < a + n → f b ≡ g b) → lowestOf f n a ≡ lowestOf g n a
   lowest-same zero a f g e = refl

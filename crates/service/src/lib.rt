@@ -329,7 +329,14 @@ pub fn spans_of(
     let tested = found.tested;
     let state = found.state;
     match tested {
-        Tested::Passed => aside(state, block, labels, links, spans, Question::Spans(item, label)),
+        Tested::Passed => aside(
+            state,
+            block,
+            labels,
+            links,
+            spans,
+            Question::Spans(item, label),
+        ),
         Tested::Refused(number) => refused(number, 0),
     }
 }
