@@ -12,7 +12,16 @@ mod sums;
 ghost use mathlib.Core.Path.{_≡_};
 ghost use Prim.Native.Nat.{_+_, _≤_, _<_};
 ghost use lib.ListN.{length};
+ghost use Rattle.vectors.specs.Sizes.{BLOCK-ROOM, LABEL-ROOM, LINK-ROOM, SPAN-ROOM};
 use service::Reply;
+
+const BLOCK_ROOM: usize = 4096;
+
+const LABEL_ROOM: usize = 3200;
+
+const LINK_ROOM: usize = 50000;
+
+const SPAN_ROOM: usize = 256;
 
 fn main() {
     // The one byte more than 65,536 shows that there is more.
@@ -37,10 +46,10 @@ struct Place {
 }
 
 fn run(script: &[u8]) {
-    let mut block = [0u8; 4096];
-    let mut labels = [0u64; 3200];
-    let mut links = [0u8; 50000];
-    let mut spans = [0i32; 256];
+    let mut block = [0u8; BLOCK_ROOM];
+    let mut labels = [0u64; LABEL_ROOM];
+    let mut links = [0u8; LINK_ROOM];
+    let mut spans = [0i32; SPAN_ROOM];
     let mut place = Place { at: 0, number: 0 };
     while place.at < script.len() {
         place = step(
@@ -71,7 +80,8 @@ fn step(
     spans: &mut [i32],
 ) -> Place
     requires { ⌜ (place .number ≤ place .at) × (place .at < length (now script)) ⌝ }
-    requires { ⌜ (length (now block) ≡ 4096) × (length (now labels) ≡ 3200) × (length (now links) ≡ 50000) × (length (now spans) ≡ 256) ⌝ }
+    requires { ⌜ (length (now block) ≡ BLOCK-ROOM) × (length (now labels) ≡ LABEL-ROOM) × (length (now links) ≡ LINK-ROOM)
+        × (length (now spans) ≡ SPAN-ROOM) ⌝ }
     ensures { λ r. ⌜ (r .number ≤ r .at) × (place .at < r .at) × (r .at ≤ length (now (script .entry))) ⌝ }
 {
     let at = place.at;
@@ -98,7 +108,8 @@ fn call(
     spans: &mut [i32],
 ) -> Place
     requires { ⌜ (place .number ≤ place .at) × (place .at + 11 ≤ length (now script)) ⌝ }
-    requires { ⌜ (length (now block) ≡ 4096) × (length (now labels) ≡ 3200) × (length (now links) ≡ 50000) × (length (now spans) ≡ 256) ⌝ }
+    requires { ⌜ (length (now block) ≡ BLOCK-ROOM) × (length (now labels) ≡ LABEL-ROOM) × (length (now links) ≡ LINK-ROOM)
+        × (length (now spans) ≡ SPAN-ROOM) ⌝ }
     ensures { λ r. ⌜ (r .number ≤ r .at) × (place .at < r .at) × (r .at ≤ length (now (script .entry))) ⌝ }
 {
     let lengths = lengths_at(script, place.at);
@@ -155,34 +166,47 @@ struct Lengths {
 
 fn lengths_at(script: &[u8], at: usize) -> Lengths
     requires { ⌜ at + 11 ≤ length (now script) ⌝ }
-    ensures { λ r. ⌜ (r .block ≤ 4096) × (r .labels ≤ 3200) × (r .links ≤ 50000) × (r .spans ≤ 256) ⌝ }
+    ensures { λ r. ⌜ (r .block ≤ BLOCK-ROOM) × (r .labels ≤ LABEL-ROOM) × (r .links ≤ LINK-ROOM) × (r .spans ≤ SPAN-ROOM) ⌝ }
     ensures { λ r. ⌜ (at + 11 ≤ r .end) × (r .end ≤ length (now (script .entry))) ⌝ }
 {
     let start = at + 11;
-    let count = input_count(script[at], codec::u16_at(script, at + 9));
+    let kind = script[at];
+    let count = input_count(kind, number_at(script, at + 9));
+    if !is_call(kind) {
+        return unlent(start);
+    }
     if script.len() - start < count {
         return unlent(start);
     }
     checked(
         start + count,
-        codec::u16_at(script, at + 1),
-        codec::u16_at(script, at + 3),
-        codec::u16_at(script, at + 5),
-        codec::u16_at(script, at + 7),
+        number_at(script, at + 1),
+        number_at(script, at + 3),
+        number_at(script, at + 5),
+        number_at(script, at + 7),
     )
 }
 
-// How many bytes of input a step has: SPANS has its item and label in the place of their number; more than a script has for other kinds.
-fn input_count(kind: u8, number: u16) -> usize
-    ensures { λ r. ⌜ r ≤ 65536 ⌝ }
+fn is_call(kind: u8) -> bool {
+    kind == 1 || kind == 2
+}
+
+// How many bytes of input a step has: SPANS has its item and label in the place of their number, and no input.
+fn input_count(kind: u8, number: usize) -> usize
+    requires { ⌜ number ≤ 65535 ⌝ }
+    ensures { λ r. ⌜ r ≤ 65535 ⌝ }
 {
-    if kind == 1 {
-        return number as usize;
-    }
     if kind == 2 {
         return 0;
     }
-    65536
+    number
+}
+
+fn number_at(script: &[u8], at: usize) -> usize
+    requires { ⌜ at + 2 ≤ length (now script) ⌝ }
+    ensures { λ r. ⌜ r ≤ 65535 ⌝ }
+{
+    codec::u16_at(script, at) as usize
 }
 
 fn unlent(end: usize) -> Lengths
@@ -198,19 +222,19 @@ fn unlent(end: usize) -> Lengths
     }
 }
 
-fn checked(end: usize, block: u16, labels: u16, links: u16, spans: u16) -> Lengths
-    ensures { λ r. ⌜ (r .block ≤ 4096) × (r .labels ≤ 3200) × (r .links ≤ 50000) × (r .spans ≤ 256) × (r .end ≡ end) ⌝ }
+fn checked(end: usize, block: usize, labels: usize, links: usize, spans: usize) -> Lengths
+    ensures { λ r. ⌜ (r .block ≤ BLOCK-ROOM) × (r .labels ≤ LABEL-ROOM) × (r .links ≤ LINK-ROOM) × (r .spans ≤ SPAN-ROOM) × (r .end ≡ end) ⌝ }
 {
-    if block > 4096 || labels > 3200 || links > 50000 || spans > 256 {
+    if block > BLOCK_ROOM || labels > LABEL_ROOM || links > LINK_ROOM || spans > SPAN_ROOM {
         return unlent(end);
     }
     Lengths {
         good: true,
         end,
-        block: block as usize,
-        labels: labels as usize,
-        links: links as usize,
-        spans: spans as usize,
+        block,
+        labels,
+        links,
+        spans,
     }
 }
 
@@ -334,7 +358,7 @@ fn poke(script: &[u8], place: Place, block: &mut [u8]) -> Place
     if script.len() - at < 4 {
         return bad(script.len());
     }
-    let target = codec::u16_at(script, at + 1) as usize;
+    let target = number_at(script, at + 1);
     if target < block.len() {
         block[target] = script[at + 3];
         return Place {

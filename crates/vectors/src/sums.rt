@@ -1,12 +1,16 @@
 // A checksum of each memory, over all its elements.
 ghost use Prim.Native.Nat.{_<_};
+ghost use Rattle.vectors.specs.Sizes.{MODULUS};
+
+// The largest prime below 2 to the 32.
+const MODULUS: u64 = 4294967291;
 
 // The checksum with one element more.
 fn mix(h: u64, element: u64) -> u64
-    requires { ⌜ h < 4294967291 ⌝ }
-    ensures { λ r. ⌜ r < 4294967291 ⌝ }
+    requires { ⌜ h < MODULUS ⌝ }
+    ensures { λ r. ⌜ r < MODULUS ⌝ }
 {
-    (h * 31 + element % 4294967291) % 4294967291
+    (h * 31 + element % MODULUS) % MODULUS
 }
 
 fn wide(byte: u8) -> u64 {

@@ -14,7 +14,7 @@ part-serve-start : tie.Need-part-serve-start
 part-serve-start c = omega arith
 
 part-serve-end : tie.Need-part-serve-end
-part-serve-end c = omega (arith, c .before .before .before .before .pre .1 .0)
+part-serve-end c = c .before .before .before .before .pre .1 .0
 
 sub-serve-2 : tie.Need-sub-serve-2
 sub-serve-2 c = omega arith
@@ -23,7 +23,7 @@ part-serve-start-2 : tie.Need-part-serve-start-2
 part-serve-start-2 c = omega arith
 
 part-serve-end-2 : tie.Need-part-serve-end-2
-part-serve-end-2 c = omega (arith, c .before .before .before .before .before .pre .1 .1)
+part-serve-end-2 c = c .before .before .before .before .before .pre .1 .1
 
 sub-serve-3 : tie.Need-sub-serve-3
 sub-serve-3 c = omega arith
@@ -32,7 +32,7 @@ part-serve-start-3 : tie.Need-part-serve-start-3
 part-serve-start-3 c = omega arith
 
 part-serve-end-3 : tie.Need-part-serve-end-3
-part-serve-end-3 c = omega (arith, c .before .before .before .before .before .before .pre .1 .2)
+part-serve-end-3 c = c .before .before .before .before .before .before .pre .1 .2
 
 sub-serve-4 : tie.Need-sub-serve-4
 sub-serve-4 c = omega arith
@@ -41,7 +41,7 @@ part-serve-start-4 : tie.Need-part-serve-start-4
 part-serve-start-4 c = omega arith
 
 part-serve-end-4 : tie.Need-part-serve-end-4
-part-serve-end-4 c = omega (arith, c .before .before .before .before .before .before .before .pre .1 .3)
+part-serve-end-4 c = c .before .before .before .before .before .before .before .pre .1 .3
 
 sub-serve-5 : tie.Need-sub-serve-5
 sub-serve-5 c =

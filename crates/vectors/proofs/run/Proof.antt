@@ -3,12 +3,14 @@ use mathlib.Core.Path.{_≡_}
 use Prim.Native.Nat.{_≤_, _-_}
 use lib.ListN.{length}
 use borrow.Author.Needs.{needs}
+use Rattle.vectors.specs.Sizes.{BLOCK-ROOM, LABEL-ROOM, LINK-ROOM, SPAN-ROOM}
 use Rattle.vectors.proofs.run.Statement.{statement}
 use Rattle.vectors.proofs.run.Tie as tie
 
 abbrev Inv-loop : tie.InvT-loop
 Inv-loop script block₀ labels₀ links₀ spans₀ place₀ block labels links spans place =
-    (place .number ≤ place .at) × (place .at ≤ length script) × (length block ≡ 4096) × (length labels ≡ 3200) × (length links ≡ 50000) × (length spans ≡ 256)
+    (place .number ≤ place .at) × (place .at ≤ length script) × (length block ≡ BLOCK-ROOM) × (length labels ≡ LABEL-ROOM) × (length links ≡ LINK-ROOM)
+    × (length spans ≡ SPAN-ROOM)
 
 abbrev μ-loop : tie.MeasureT-loop
 μ-loop script block₀ labels₀ links₀ spans₀ place₀ block labels links spans place = length script - place .at

@@ -2,12 +2,13 @@
 use Prim.Native.Nat.{_≤_, _<_, _-_}
 use lib.ListN.{length}
 use borrow.Author.Needs.{needs}
+use Rattle.vectors.specs.Sizes.{MODULUS}
 use Rattle.vectors.proofs.sums.of_depths.Statement.{statement}
 use Rattle.vectors.proofs.sums.of_depths.Tie as tie
 
 abbrev Inv-loop : tie.InvT-loop
 Inv-loop s h₀ i₀ h i =
-    (i ≤ length s) × (h < 4294967291)
+    (i ≤ length s) × (h < MODULUS)
 
 abbrev μ-loop : tie.MeasureT-loop
 μ-loop s h₀ i₀ h i = length s - i
