@@ -1,24 +1,29 @@
 -- The exported calls: what C gets back is what the service's definitions give, with the answer as one number.
 use mathlib.Core.Path.{_≡_, refl, sym, ap, _∙_}
 use mathlib.Core.Bool.{Bool, true, false, not, cond, _&&_}
+use mathlib.Core.List.{[], _∷_}
 use Prim.Native.Nat.{ℕ, _+_, _*_, _≤_}
 use native.Mathlib.Omega.{arith}
 use borrow.Author.Tests.{le-ltb, ltb-false}
-use lib.Dec.{ltb, eqb}
+use lib.Dec.{ltb}
 use Rattle.terms.specs.declared.Answer.{Answer}
-use Rattle.terms.specs.Answers.{numberOf, valueOf}
 use Rattle.terms.specs.declared.Answer.the-variants as Answer
-use Rattle.terms.specs.declared.Atom.the-variants.{Has}
-use Rattle.terms.specs.Limits.{isItem, isLabel}
-use Rattle.terms.specs.Refusals.{lowest}
-use Rattle.terms.specs.Held.{Held, isStatement}
+use Rattle.terms.specs.declared.Question.{Question}
+use Rattle.terms.specs.declared.Question.the-variants as Question
+use Rattle.terms.specs.declared.Settings.{Settings}
+use Rattle.terms.specs.declared.Tested.{Tested}
+use Rattle.terms.specs.declared.Tested.the-variants as Tested
+use Rattle.terms.specs.Answers.{numberOf, valueOf}
+use Rattle.terms.specs.Limits.{ITEMS, LABELS, isItem, isLabel}
+use Rattle.terms.specs.Refusals.{test, tested, onTested}
+use Rattle.terms.specs.Held.{Held, isQuestion}
 use Rattle.block.specs.Block.{readHeld}
 use Rattle.records.specs.declared.Command.the-variants as Command
 use Rattle.records.specs.declared.Decoded.{Decoded}
 use Rattle.records.specs.declared.Decoded.the-variants as Decoded
-use Rattle.records.specs.Records.{spansOf}
-use Rattle.decide.specs.Decide.{SpansOf, Yes, No, Spans, Reply, Contradiction, Answered, answer}
-use Rattle.service.specs.Call.{Buffers, After, after, lentTests, judged, replied, effect, onLent, withoutBytes, spanCall}
+use Rattle.records.specs.Records.{questionTests, decodedAs, asQuestion, parsedBody}
+use Rattle.decide.specs.Decide.{Yes, No, Spans, Reply, Contradiction, Answered, answer}
+use Rattle.service.specs.Call.{Buffers, After, after, lentTests, judged, replied, effect, onLent, spanCall}
 
 -- an answer as one number: its own number in the upper half, its value in the lower
 abbrev pub packed : Answer → ℕ
@@ -42,27 +47,29 @@ packs {u = u} {m = m} a x p e = ap (λ n. returned n u m) p ∙ ap exported e
 
 -- ---- the call beside the records uses no bytes
 
--- a span question, by whether it names an item and a label
-abbrev decodedIf : ℕ → ℕ → Bool → Decoded
-decodedIf a A v = let n : ℕ = cond (not v) 6 0 in cond (eqb n 0) (Decoded.Command (Command.Spans a A)) (Decoded.Refused n)
-
 replied-bytes : (h : Held) (m : Buffers) (u : ℕ) (r : Reply) → replied h m u r .used ≡ u
 replied-bytes h m u (Contradiction a) = refl
 replied-bytes h m u (Answered Yes) = refl
 replied-bytes h m u (Answered No) = refl
 replied-bytes h m u (Answered (Spans rs)) = refl
 
-decoded-bytes : (h : Held) (m : Buffers) (a A : ℕ) (v : Bool) → effect h m (judged h (withoutBytes (decodedIf a A v))) .used ≡ 0
-decoded-bytes h m a A true = replied-bytes h m 0 (answer h (SpansOf a A))
-decoded-bytes h m a A false = refl
+asked-bytes : (h : Held) (m : Buffers) (q : Question) (t : Tested) → effect h m (judged h (parsedBody (decodedAs t (Command.Ask q)) [] 0)) .used ≡ 0
+asked-bytes h m q Tested.Passed = replied-bytes h m 0 (answer h q)
+asked-bytes h m q (Tested.Refused n) = refl
 
 pub span-bytes : (m : Buffers) (a A : ℕ) → spanCall m a A .used ≡ 0
 unfolding spanCall
-span-bytes m a A = go (eqb (lowest (lentTests m)) 0)
+span-bytes m a A = go (tested (lentTests m))
   where
-    go : (b : Bool) → cond b (effect (readHeld (m .block)) m (judged (readHeld (m .block)) (withoutBytes (spansOf a A)))) (after (Answer.Refused (lowest (lentTests m))) 0 m) .used ≡ 0
-    go true = decoded-bytes (readHeld (m .block)) m a A (isStatement (Has a A))
-    go false = refl
+    h : Held
+    h = readHeld (m .block)
+
+    q : Question
+    q = Question.Spans a A
+
+    go : (t : Tested) → onTested (effect h m (judged h (parsedBody (asQuestion (h .settings) q) [] 0))) (λ n. after (Answer.Refused n) 0 m) t .used ≡ 0
+    go Tested.Passed = asked-bytes h m q (tested (questionTests (h .settings) q))
+    go (Tested.Refused n) = refl
 
 -- ---- names as numbers
 
@@ -71,25 +78,36 @@ abbrev pub clamped : ℕ → ℕ
 clamped n = cond (ltb n 256) n 255
 
 -- 01, Where a record is turned away: body
-no-label : (a A : ℕ) → 64 ≤ A → spansOf a A ≡ Decoded.Refused 6
-no-label a A l = ap (λ v. decodedIf a A (isItem a && v)) (le-ltb A 64 l) ∙ go (isItem a)
-  where
-    go : (v : Bool) → decodedIf a A (v && false) ≡ Decoded.Refused 6
-    go true = refl
-    go false = refl
+not-named : (σ : Settings) (q : Question) → isQuestion q ≡ false → asQuestion σ q ≡ Decoded.Refused 6
+not-named σ q e = ap (λ v. decodedAs (tested (test (not v) 6 ∷ [])) (Command.Ask q)) e
 
-no-item : (a A : ℕ) → 16 ≤ a → spansOf a A ≡ Decoded.Refused 6
-no-item a A l = ap (λ v. decodedIf a A (v && isLabel A)) (le-ltb a 16 l)
+no-label : (σ : Settings) (a A : ℕ) → LABELS ≤ A → asQuestion σ (Question.Spans a A) ≡ Decoded.Refused 6
+no-label σ a A l = not-named σ (Question.Spans a A) (ap (λ v. isItem a && v) (le-ltb A LABELS l) ∙ none (isItem a))
+  where
+    none : (v : Bool) → (v && false) ≡ false
+    none true = refl
+    none false = refl
+
+no-item : (σ : Settings) (a A : ℕ) → ITEMS ≤ a → asQuestion σ (Question.Spans a A) ≡ Decoded.Refused 6
+no-item σ a A l = not-named σ (Question.Spans a A) (ap (λ v. v && isLabel A) (le-ltb a ITEMS l))
 
 -- a number that no byte holds and 255 are refused alike
 pub spans-clamped : (m : Buffers) (a A : ℕ) → spanCall m (clamped a) (clamped A) ≡ spanCall m a A
 unfolding spanCall
-spans-clamped m a A = ap (λ x. onLent m (judged (readHeld (m .block)) (withoutBytes x))) (go (ltb a 256) (ltb A 256) refl refl)
+spans-clamped m a A = ap (λ (x : Decoded). onLent m (judged h (parsedBody x [] 0))) (go (ltb a 256) (ltb A 256) refl refl)
   where
-    go : (u v : Bool) → ltb a 256 ≡ u → ltb A 256 ≡ v → spansOf (cond u a 255) (cond v A 255) ≡ spansOf a A
+    h : Held
+    h = readHeld (m .block)
+
+    σ : Settings
+    σ = h .settings
+
+    go :
+        (u v : Bool) → ltb a 256 ≡ u → ltb A 256 ≡ v →
+        asQuestion σ (Question.Spans (cond u a 255) (cond v A 255)) ≡ asQuestion σ (Question.Spans a A)
     go true true e f = refl
-    go true false e f = let l : 256 ≤ A = ltb-false A 256 f in no-label a 255 (omega arith) ∙ sym (no-label a A (omega arith))
-    go false v e f = let l : 256 ≤ a = ltb-false a 256 e in no-item 255 (cond v A 255) (omega arith) ∙ sym (no-item a A (omega arith))
+    go true false e f = let l : 256 ≤ A = ltb-false A 256 f in no-label σ a 255 (omega arith) ∙ sym (no-label σ a A (omega arith))
+    go false v e f = let l : 256 ≤ a = ltb-false a 256 e in no-item σ 255 (cond v A 255) (omega arith) ∙ sym (no-item σ a A (omega arith))
 
 -- the service's call with clamped names, packed
 pub span-packs :

@@ -28,7 +28,8 @@ pub extern "C" fn harmikse_record(
     input: &[u8],
     used: &mut u64,
 ) -> u32
-    ensures { λ r. ⌜ returned r (now (used .exit)) (lent (now (block .exit)) (now (labels .exit)) (now (links .exit)) (now (spans .exit))) ≡ exported (call (lent (now (block .entry)) (now (labels .entry)) (now (links .entry)) (now (spans .entry))) (now (input .entry))) ⌝ }
+    ensures { λ r. ⌜ returned r (now (used .exit)) (lent (now (block .exit)) (now (labels .exit)) (now (links .exit)) (now (spans .exit)))
+        ≡ exported (call (lent (now (block .entry)) (now (labels .entry)) (now (links .entry)) (now (spans .entry))) (now (input .entry))) ⌝ }
 {
     let reply = service::record(block, labels, links, spans, input);
     let n = reply.used;
@@ -47,7 +48,8 @@ pub extern "C" fn harmikse_spans(
     item: u32,
     label: u32,
 ) -> u32
-    ensures { λ r. ⌜ returned r 0 (lent (now (block .entry)) (now (labels .exit)) (now (links .exit)) (now (spans .exit))) ≡ exported (spanCall (lent (now (block .entry)) (now (labels .entry)) (now (links .entry)) (now (spans .entry))) item label) ⌝ }
+    ensures { λ r. ⌜ returned r 0 (lent (now (block .entry)) (now (labels .exit)) (now (links .exit)) (now (spans .exit)))
+        ≡ exported (spanCall (lent (now (block .entry)) (now (labels .entry)) (now (links .entry)) (now (spans .entry))) item label) ⌝ }
 {
     let reply = service::spans_of(block, labels, links, spans, clamp(item), clamp(label));
     let answer = reply.answer;
