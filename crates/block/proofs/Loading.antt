@@ -17,7 +17,7 @@ use Rattle.terms.specs.Lists.{limits}
 use Rattle.state.specs.declared.State.{State}
 use Rattle.state.specs.State.{heldOf, Counts-in}
 use Rattle.block.specs.declared.Loaded.{Loaded}
-use Rattle.block.specs.Layout.{settingsAt, ruleAt, markAt, tab}
+use Rattle.block.specs.Layout.{settingsAt, ruleRead, markRead, tab}
 use Rattle.block.specs.Block.{HEADER, RULE-BYTES, MARK-BYTES, MARKS-AT, SIZE, encode, readHeld, sameBytes, good, Loaded-as}
 use Rattle.block.specs.Places.{placeFrom, markFrom, Filled, Not-good}
 use Rattle.block.proofs.Tab.{map-tab, length-tab}
@@ -31,12 +31,17 @@ not-back false c e = ap not e
 module _ (b : List ℕ) where
   pub too-many-rules : RULES < little 2 b 0 → limits (readHeld b) ≡ false
   unfolding limits readHeld
-  too-many-rules h = rw (length-tab (λ i. ruleAt b (HEADER + RULE-BYTES * i)) (little 2 b 0), lt-leb (little 2 b 0) 128 h)
+  too-many-rules h = rw (length-tab (λ i. ruleRead b (HEADER + RULE-BYTES * i)) (little 2 b 0), lt-leb (little 2 b 0) 128 h)
 
   pub too-many-marks : little 2 b 0 ≤ RULES → MARKS < little 2 b 2 → limits (readHeld b) ≡ false
   unfolding limits readHeld
   too-many-marks l h =
-      rw (length-tab (λ i. ruleAt b (HEADER + RULE-BYTES * i)) (little 2 b 0), length-tab (λ i. markAt b (MARKS-AT + MARK-BYTES * i)) (little 2 b 2), le-leb (little 2 b 0) 128 l, lt-leb (little 2 b 2) 256 h)
+      rw (
+        length-tab (λ i. ruleRead b (HEADER + RULE-BYTES * i)) (little 2 b 0),
+        length-tab (λ i. markRead b (MARKS-AT + MARK-BYTES * i)) (little 2 b 2),
+        le-leb (little 2 b 0) 128 l,
+        lt-leb (little 2 b 2) 256 h,
+      )
 
   pub not-good : (r : Loaded) → Not-good r → limits (readHeld b) ≡ false → Loaded-as b r
   unfolding good
@@ -52,13 +57,15 @@ module _ (b : List ℕ) (s : State) (rule-count : s .«rule_count» ≡ little 2
   pub held-in : heldOf s ≡ readHeld b
   unfolding readHeld rulesIn
   held-in =
-      ap (λ (x : Settings). record { rules = map (λ p. p .rule) (take (s .«rule_count») (s .rules)); marks = take (s .«mark_count») (s .marks); settings = x }) settings
+      ap (λ (x : Settings). record {
+        rules = map (λ p. p .rule) (take (s .«rule_count») (s .rules));
+        marks = take (s .«mark_count») (s .marks);
+        settings = x;
+      }) settings
       ∙ ap (λ (x : List Rule). of-lists x (take (s .«mark_count») (s .marks)))
-      (ap (map (λ p. p .rule)) (rules .first) ∙ map-tab (λ p. p .rule) (placeFrom b) (s .«rule_count») ∙ ap (tab (λ i. ruleAt b (HEADER + RULE-BYTES * i))) rule-count)
-      ∙ ap (of-lists (tab (λ i. ruleAt b (HEADER + RULE-BYTES * i)) (little 2 b 0))) (marks .first ∙ ap (tab (markFrom b)) mark-count)
-
-  pub counts-in : s .«rule_count» ≤ RULES → s .«mark_count» ≤ MARKS → Counts-in s
-  counts-in h k = record { rule-places = rules .places; few-rules = h; mark-places = marks .places; few-marks = k }
+      (ap (map (λ p. p .rule)) (rules .first) ∙ map-tab (λ p. p .rule) (placeFrom b) (s .«rule_count»)
+      ∙ ap (tab (λ i. ruleRead b (HEADER + RULE-BYTES * i))) rule-count)
+      ∙ ap (of-lists (tab (λ i. ruleRead b (HEADER + RULE-BYTES * i)) (little 2 b 0))) (marks .first ∙ ap (tab (markFrom b)) mark-count)
 
   -- the comparison decides, once the limits are kept
   pub loaded :

@@ -43,7 +43,9 @@ pad n k t x h =
     let f : n - length (x ++ zeros k) ≡ n - length x - k = simp (length-append, length-zeros) (omega arith) in
     let g : length (x ++ zeros k) ≤ n = simp (length-append, length-zeros) h in
     put-front l x
-    ∙ ap (λ (y : List ℕ). x ++ y) (drop-zeros (length x) n t (omega arith) ∙ ap (λ (z : List ℕ). z ++ t) (ap zeros (sym e) ∙ sym (zeros-add k (n - length x - k))) ∙ append-assoc (zeros k) (zeros (n - length x - k)) t)
+    ∙ ap (λ (y : List ℕ). x ++ y)
+    (drop-zeros (length x) n t (omega arith) ∙ ap (λ (z : List ℕ). z ++ t) (ap zeros (sym e) ∙ sym (zeros-add k (n - length x - k)))
+    ∙ append-assoc (zeros k) (zeros (n - length x - k)) t)
     ∙ sym (append-assoc x (zeros k) (zeros (n - length x - k) ++ t))
     ∙ ap (λ (y : List ℕ). (x ++ zeros k) ++ y) (ap (λ (m : ℕ). zeros m ++ t) (sym f) ∙ sym (drop-zeros (length (x ++ zeros k)) n t g))
     ∙ sym (put-front l (x ++ zeros k))

@@ -35,12 +35,12 @@ use Rattle.block.specs.Layout.{
   placeBytes,
   ruleBytes,
   ruleOf,
-  ruleAt,
+  ruleRead,
   markBytesOf,
   atomBytes,
   markBytes,
   markOf,
-  markAt,
+  markRead,
   tab,
   cat,
   zeros,
@@ -120,13 +120,13 @@ module _ (s : List ℕ) (at k a b c n : ℕ) (fits : n < 256 ^ 4) (h : Stands s 
       rw (e, g) (h .same (4 + i) (omega arith) ∙ ap (λ (m : ℕ). getD (k ∷ a ∷ b ∷ c ∷ bytes 4 n) m 0) f))
       ∙ little-bytes 4 n fits
 
-  rule-place : ruleAt s at ≡ ruleOf k a b c n
+  rule-place : ruleRead s at ≡ ruleOf k a b c n
   rule-place = rw (kind-back, h .same 1 (lit< tt), h .same 2 (lit< tt), h .same 3 (lit< tt), number-back)
 
-  mark-place : markAt s at ≡ markOf k a b c (toZ w32 n)
+  mark-place : markRead s at ≡ markOf k a b c (toZ w32 n)
   mark-place = rw (kind-back, h .same 1 (lit< tt), h .same 2 (lit< tt), h .same 3 (lit< tt), number-back)
 
-rule-back : (s : List ℕ) (at : ℕ) (ρ : Rule) → T (isRule ρ) → Stands s at (ruleBytes ρ) → ruleAt s at ≡ ρ
+rule-back : (s : List ℕ) (at : ℕ) (ρ : Rule) → T (isRule ρ) → Stands s at (ruleBytes ρ) → ruleRead s at ≡ ρ
 unfolding placeBytes ruleOf
 rule-back s at (Label o A B) t h =
     let w = and-both (isOperator o) (isNamed (Label o A B)) t .0 in
@@ -137,14 +137,14 @@ rule-back s at (Link o r s′) t h =
     rule-place s at 4 (codeOf o) r s′ (distanceOf o) (distance-fits o w) h ∙ ap (λ (x : Operator). Link x r s′) (operator-back o w)
 rule-back s at (Via r A B) t h = rule-place s at 5 r A B 0 (omega arith) h
 
-atom-back : (s : List ℕ) (at : ℕ) (x : Atom) (d : ℤ) → SFits w32 d → Stands s at (atomBytes x d) → markAt s at ≡ record { atom = x; depth = d }
+atom-back : (s : List ℕ) (at : ℕ) (x : Atom) (d : ℤ) → SFits w32 d → Stands s at (atomBytes x d) → markRead s at ≡ record { atom = x; depth = d }
 unfolding markBytesOf markOf
 atom-back s at (Has a A) d f h =
     mark-place s at 6 a A 0 (ofZ w32 d) (ofZ-fits w32 d f .fits) h ∙ ap (λ (z : ℤ). record { atom = Has a A; depth = z }) (toZ-ofZ w32 d f)
 atom-back s at (Linked a r b) d f h =
     mark-place s at 7 a r b (ofZ w32 d) (ofZ-fits w32 d f .fits) h ∙ ap (λ (z : ℤ). record { atom = Linked a r b; depth = z }) (toZ-ofZ w32 d f)
 
-mark-back : (s : List ℕ) (at : ℕ) (m : Mark) → T (isMark m) → Stands s at (markBytes m) → markAt s at ≡ m
+mark-back : (s : List ℕ) (at : ℕ) (m : Mark) → T (isMark m) → Stands s at (markBytes m) → markRead s at ≡ m
 mark-back s at m t h =
     atom-back s at (m .atom) (m .depth) (depth-fits (m .depth) (and-both (isMarkable (m .atom)) (isDepth (m .depth)) t .1)) h
 
@@ -239,20 +239,22 @@ module _ (h : Held) (within : T (limits h)) (t : List ℕ) where
   none = Both 0 0 0
 
   abbrev rulesRead : ℕ → List Rule
-  rulesRead n = tab (λ i. ruleAt block (HEADER + RULE-BYTES * i)) n
+  rulesRead n = tab (λ i. ruleRead block (HEADER + RULE-BYTES * i)) n
 
   abbrev marksRead : ℕ → List Mark
-  marksRead n = tab (λ i. markAt block (MARKS-AT + MARK-BYTES * i)) n
+  marksRead n = tab (λ i. markRead block (MARKS-AT + MARK-BYTES * i)) n
 
   rules-back : rulesRead (length (h .rules)) ≡ h .rules
   rules-back =
-      tab-is (λ i. ruleAt block (HEADER + RULE-BYTES * i)) (h .rules) none
+      tab-is (λ i. ruleRead block (HEADER + RULE-BYTES * i)) (h .rules) none
       (λ i l. rule-back block (HEADER + RULE-BYTES * i) (getD (h .rules) i none) (every-at isRule (h .rules) none (k .rules) i l) (rule-stands i none l))
 
   marks-back : marksRead (length (h .marks)) ≡ h .marks
   marks-back =
-      tab-is (λ i. markAt block (MARKS-AT + MARK-BYTES * i)) (h .marks) emptyMark
-      (λ i l. mark-back block (MARKS-AT + MARK-BYTES * i) (getD (h .marks) i emptyMark) (every-at isMark (h .marks) emptyMark (k .marks) i l) (mark-stands i emptyMark l))
+      tab-is (λ i. markRead block (MARKS-AT + MARK-BYTES * i)) (h .marks) emptyMark
+      (λ i l.
+      mark-back block (MARKS-AT + MARK-BYTES * i) (getD (h .marks) i emptyMark) (every-at isMark (h .marks) emptyMark (k .marks) i l)
+      (mark-stands i emptyMark l))
 
   abbrev of-parts : List Rule → List Mark → Settings → Held
   of-parts rs ms σ = record { rules = rs; marks = ms; settings = σ }
@@ -269,7 +271,8 @@ module _ (h : Held) (within : T (limits h)) (t : List ℕ) where
   unfolding good
   good-encode =
       let l : limits (readHeld block) ≡ true = ap limits read-encode ∙ true-of (limits h) within in
-      let e : encode (readHeld block) ≡ take SIZE block = ap encode read-encode ∙ sym (take-at (encode h) t SIZE (length-encode h (k .few-rules) (k .few-marks))) in
+      let e : encode (readHeld block) ≡ take SIZE block =
+      ap encode read-encode ∙ sym (take-at (encode h) t SIZE (length-encode h (k .few-rules) (k .few-marks))) in
       rw l (subst (λ (x : List ℕ). sameBytes (encode (readHeld block)) x ≡ true) e (sameBytes-refl (encode (readHeld block))))
 
   -- and so a block that encodes what is within the limits holds it
@@ -282,7 +285,8 @@ pub decode-holds : (b : List ℕ) (h : Held) → decode b ≡ holds h → T (lim
 unfolding decode good
 decode-holds b h e = go (limits (readHeld b) && sameBytes (encode (readHeld b)) (take SIZE b)) (λ t. t) e
   where
-    go : (g : Bool) → (T g → T (limits (readHeld b) && sameBytes (encode (readHeld b)) (take SIZE b))) → cond g (holds (readHeld b)) unreadable ≡ holds h → T (limits h) × (take SIZE b ≡ encode h)
+    go : (g : Bool) → (T g → T (limits (readHeld b) && sameBytes (encode (readHeld b)) (take SIZE b))) →
+        cond g (holds (readHeld b)) unreadable ≡ holds h → T (limits h) × (take SIZE b ≡ encode h)
     go true f e =
         let w = and-both (limits (readHeld b)) (sameBytes (encode (readHeld b)) (take SIZE b)) (f tt) in
         let r : readHeld b ≡ h = cc in

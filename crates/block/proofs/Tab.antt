@@ -72,7 +72,8 @@ module _ {X : Type 0} (f : X → List ℕ) (k : ℕ) (size : (x : X) → length 
     one i d h =
         rw (add-one, take-suc xs i d h, cat-append f (take i xs) (getD xs i d ∷ []), append-nil)
 
-    pub lay-more : (i : ℕ) (d : X) → i < length xs → put (put l base (cat f (take i xs))) (base + k * i) (f (getD xs i d)) ≡ put l base (cat f (take (i + 1) xs))
+    pub lay-more : (i : ℕ) (d : X) → i < length xs →
+        put (put l base (cat f (take i xs))) (base + k * i) (f (getD xs i d)) ≡ put l base (cat f (take (i + 1) xs))
     lay-more i d h =
         let n : length (take i xs) ≡ i = length-take-le i xs (omega arith) in
         let s : base + k * i ≡ base + length (cat f (take i xs)) = rw (length-cat (take i xs), n) in

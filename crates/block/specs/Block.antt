@@ -11,7 +11,7 @@ use Rattle.terms.specs.Held.{Held}
 use Rattle.terms.specs.Lists.{limits}
 use Rattle.state.specs.State.{heldOf, Counts-in}
 use Rattle.block.specs.declared.Loaded.{Loaded}
-use Rattle.block.specs.Layout.{settingsBytes, settingsAt, ruleBytes, ruleAt, markBytes, markAt, tab, cat, zeros}
+use Rattle.block.specs.Layout.{settingsBytes, settingsAt, ruleBytes, ruleRead, markBytes, markRead, tab, cat, zeros}
 
 -- 01, State and tables: the block's fixed size; a header, the rule places, the mark places
 abbrev pub SETTINGS-AT : ℕ
@@ -48,8 +48,8 @@ encode h =
 -- what the counts, places and settings of a block give
 unfoldable pub readHeld : List ℕ → Held
 readHeld b = record {
-  rules = tab (λ i. ruleAt b (HEADER + RULE-BYTES * i)) (little 2 b 0);
-  marks = tab (λ i. markAt b (MARKS-AT + MARK-BYTES * i)) (little 2 b 2);
+  rules = tab (λ i. ruleRead b (HEADER + RULE-BYTES * i)) (little 2 b 0);
+  marks = tab (λ i. markRead b (MARKS-AT + MARK-BYTES * i)) (little 2 b 2);
   settings = settingsAt b;
 }
 

@@ -32,8 +32,8 @@ ruleOf k a b c n =
     (cond (eqb k 4) (Link (orIdentity (operatorOf a n)) b c) (Via a b c)))
 
 -- the rule in the eight bytes from `at` on; what no rule is stored as is read as another
-abbrev pub ruleAt : List ℕ → ℕ → Rule
-ruleAt b at = ruleOf (getD b at 0) (getD b (at + 1) 0) (getD b (at + 2) 0) (getD b (at + 3) 0) (little 4 b (at + 4))
+abbrev pub ruleRead : List ℕ → ℕ → Rule
+ruleRead b at = ruleOf (getD b at 0) (getD b (at + 1) 0) (getD b (at + 2) 0) (getD b (at + 3) 0) (little 4 b (at + 4))
 
 -- docs/STATE.md, a mark place: kind, three names, depth
 unfoldable pub markBytesOf : ℕ → ℕ → ℕ → ℕ → ℤ → List ℕ
@@ -49,8 +49,8 @@ markBytes m = atomBytes (m .atom) (m .depth)
 unfoldable pub markOf : ℕ → ℕ → ℕ → ℕ → ℤ → Mark
 markOf k a b c d = cond (eqb k 6) (record { atom = Has a b; depth = d }) (record { atom = Linked a b c; depth = d })
 
-abbrev pub markAt : List ℕ → ℕ → Mark
-markAt b at = markOf (getD b at 0) (getD b (at + 1) 0) (getD b (at + 2) 0) (getD b (at + 3) 0) (signed32At b (at + 4))
+abbrev pub markRead : List ℕ → ℕ → Mark
+markRead b at = markOf (getD b at 0) (getD b (at + 1) 0) (getD b (at + 2) 0) (getD b (at + 3) 0) (signed32At b (at + 4))
 
 -- docs/STATE.md, the settings in the header: none yet
 abbrev pub settingsBytes : Settings → List ℕ

@@ -8,16 +8,16 @@ use Rattle.terms.specs.declared.RulePlace.{RulePlace}
 use Rattle.terms.specs.declared.Mark.{Mark}
 use Rattle.state.specs.State.{Counts-in}
 use Rattle.block.specs.declared.Loaded.{Loaded}
-use Rattle.block.specs.Layout.{ruleBytes, ruleAt, markAt, tab}
+use Rattle.block.specs.Layout.{ruleBytes, ruleRead, markRead, tab}
 use Rattle.block.specs.Block.{HEADER, RULE-BYTES, MARK-BYTES, MARKS-AT}
 
 -- the rule place i of a block
 abbrev pub placeFrom : List ℕ → ℕ → RulePlace
-placeFrom b i = record { rule = ruleAt b (HEADER + RULE-BYTES * i) }
+placeFrom b i = record { rule = ruleRead b (HEADER + RULE-BYTES * i) }
 
 -- the mark place i of a block
 abbrev pub markFrom : List ℕ → ℕ → Mark
-markFrom b i = markAt b (MARKS-AT + MARK-BYTES * i)
+markFrom b i = markRead b (MARKS-AT + MARK-BYTES * i)
 
 -- the bytes of a rule place
 abbrev pub placeBytesOf : RulePlace → List ℕ

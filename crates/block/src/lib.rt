@@ -6,7 +6,8 @@ ghost use lib.ListN.{length, take, drop};
 ghost use Rattle.codec.specs.Bytes.{put};
 ghost use Rattle.terms.specs.Limits.{RULES, MARKS};
 ghost use Rattle.state.specs.State.{Counts-in, heldOf};
-ghost use Rattle.block.specs.Layout.{settingsBytes, settingsAt, placeBytes, ruleBytes, ruleOf, ruleAt, markBytesOf, markBytes, markOf, markAt, cat, zeros};
+ghost use Rattle.block.specs.Layout.{settingsBytes, settingsAt, placeBytes, ruleBytes, ruleOf};
+ghost use Rattle.block.specs.Layout.{ruleRead, markBytesOf, markBytes, markOf, markRead, cat, zeros};
 ghost use Rattle.block.specs.Block.{SETTINGS-AT, HEADER, MARKS-AT, SIZE, encode, Loaded-as};
 ghost use Rattle.block.specs.Places.{placeFrom, markFrom, placeBytesOf, Filled, Not-good};
 use state::State;
@@ -49,7 +50,7 @@ fn rule_of(kind: u8, a: u8, b: u8, c: u8, n: u32) -> Rule
 
 fn rule_at(b: &[u8], at: usize) -> Rule
     requires { ⌜ at + 8 ≤ length (now b) ⌝ }
-    ensures { λ r. ⌜ r ≡ ruleAt (now (b .entry)) at ⌝ }
+    ensures { λ r. ⌜ r ≡ ruleRead (now (b .entry)) at ⌝ }
 {
     let n = codec::u32_at(b, at + 4);
     rule_of(b[at], b[at + 1], b[at + 2], b[at + 3], n)
@@ -72,7 +73,7 @@ fn mark_of(kind: u8, a: u8, b: u8, c: u8, depth: i32) -> Mark
 
 fn mark_at(b: &[u8], at: usize) -> Mark
     requires { ⌜ at + 8 ≤ length (now b) ⌝ }
-    ensures { λ r. ⌜ r ≡ markAt (now (b .entry)) at ⌝ }
+    ensures { λ r. ⌜ r ≡ markRead (now (b .entry)) at ⌝ }
 {
     let depth = codec::i32_at(b, at + 4);
     mark_of(b[at], b[at + 1], b[at + 2], b[at + 3], depth)

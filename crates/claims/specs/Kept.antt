@@ -41,24 +41,40 @@ passed true n ts e = let z : _≡_ {A = ℕ} 0 1 = cc in let w : ⊥ = omega ari
 passed false n ts e = (tt, e)
 
 every-snoc : {X : Type 0} (f : X → Bool) (xs : List X) (x : X) → T (every f xs) → T (f x) → T (every f (xs ++ (x ∷ [])))
-every-snoc f xs x t u = in-every f (xs ++ (x ∷ [])) (λ y m. ⊎-elim (λ n. every-in f xs t y n) (λ n. subst (λ v. T (f v)) (sym (List·Memᴰ·eq-of-singleton n)) u) (List·Memᴰ·append-cases xs m))
+every-snoc f xs x t u =
+    in-every f (xs ++ (x ∷ [])) (λ y m.
+    ⊎-elim (λ n. every-in f xs t y n) (λ n. subst (λ v. T (f v)) (sym (List·Memᴰ·eq-of-singleton n)) u) (List·Memᴰ·append-cases xs m))
 
 -- the depths after a mark more
 depths-put : (ms : List Mark) (m : Mark) → length (depthsOf (ms ++ (m ∷ []))) ≤ length (insert (m .depth) (depthsOf ms))
-depths-put ms m = within-length (depthsOf (ms ++ (m ∷ []))) (insert (m .depth) (depthsOf ms)) (depths-asc (ms ++ (m ∷ []))) (insert-asc (m .depth) (depthsOf ms) (depths-asc ms)) go
+depths-put ms m =
+    within-length (depthsOf (ms ++ (m ∷ []))) (insert (m .depth) (depthsOf ms)) (depths-asc (ms ++ (m ∷ [])))
+    (insert-asc (m .depth) (depthsOf ms) (depths-asc ms)) go
   where
     go : (x : ℤ) → x ∈ depthsOf (ms ++ (m ∷ [])) → x ∈ insert (m .depth) (depthsOf ms)
     go x n =
         let (k, o, e) = depths-only (ms ++ (m ∷ [])) x n in
         ⊎-elim (λ p. insert-keeps (m .depth) x (depthsOf ms) (subst (λ v. v ∈ depthsOf ms) e (depths-in ms k p)))
-        (λ p. subst (λ v. v ∈ insert (m .depth) (depthsOf ms)) (sym (ap (λ (v : Mark). v .depth) (List·Memᴰ·eq-of-singleton p)) ∙ e) (insert-has (m .depth) (depthsOf ms)))
+        (λ p.
+        subst (λ v. v ∈ insert (m .depth) (depthsOf ms)) (sym (ap (λ (v : Mark). v .depth) (List·Memᴰ·eq-of-singleton p)) ∙ e)
+        (insert-has (m .depth) (depthsOf ms)))
         (List·Memᴰ·append-cases ms o)
 
-depths-room : (ms : List Mark) (m : Mark) → depthCount ms ≤ DEPTHS → T (not (not (some (marksAt (m .depth)) ms) && leb DEPTHS (depthCount ms))) → depthCount (ms ++ (m ∷ [])) ≤ DEPTHS
-depths-room ms m h t = go (some (marksAt (m .depth)) ms) (λ u. some-depth (m .depth) ms u) (leb DEPTHS (depthCount ms)) (λ u. nleb→lt DEPTHS (depthCount ms) u) t
+depths-room : (ms : List Mark) (m : Mark) → depthCount ms ≤ DEPTHS →
+    T (not (not (some (marksAt (m .depth)) ms) && leb DEPTHS (depthCount ms))) → depthCount (ms ++ (m ∷ [])) ≤ DEPTHS
+depths-room ms m h t =
+    go (some (marksAt (m .depth)) ms) (λ u. some-depth (m .depth) ms u) (leb DEPTHS (depthCount ms))
+    (λ u. nleb→lt DEPTHS (depthCount ms) u) t
   where
-    go : (a : Bool) → (T a → m .depth ∈ depthsOf ms) → (b : Bool) → (T (not b) → depthCount ms < DEPTHS) → T (not (not a && b)) → depthCount (ms ++ (m ∷ [])) ≤ DEPTHS
-    go true f b g t = omega (arith, depth-count (ms ++ (m ∷ [])), depth-count ms, depths-put ms m, ap length (insert-again (m .depth) (depthsOf ms) (depths-asc ms) (f tt)))
+    go : (a : Bool) → (T a → m .depth ∈ depthsOf ms) → (b : Bool) → (T (not b) → depthCount ms < DEPTHS) → T (not (not a && b)) →
+        depthCount (ms ++ (m ∷ [])) ≤ DEPTHS
+    go true f b g t = omega (
+      arith,
+      depth-count (ms ++ (m ∷ [])),
+      depth-count ms,
+      depths-put ms m,
+      ap length (insert-again (m .depth) (depthsOf ms) (depths-asc ms) (f tt)),
+    )
     go false f true g t = absurd t
     go false f false g t = omega (arith, depth-count (ms ++ (m ∷ [])), depth-count ms, depths-put ms m, insert-length (m .depth) (depthsOf ms), g tt)
 
@@ -72,7 +88,16 @@ depths-taken f ms =
 
 pub empty-limited : Limited emptyHeld
 unfolding every once depthCount
-empty-limited = record { few-rules = omega arith; few-marks = omega arith; few-depths = omega arith; rules = tt; marks = tt; once-rules = tt; once-marks = tt; settings = tt }
+empty-limited = record {
+  few-rules = omega arith;
+  few-marks = omega arith;
+  few-depths = omega arith;
+  rules = tt;
+  marks = tt;
+  once-rules = tt;
+  once-marks = tt;
+  settings = tt;
+}
 
 pub added-limited : (h : Held) (ρ : Rule) → Limited h → T (isRule ρ) → tested (ruleTests h ρ) ≡ Tested.Passed → Limited (addRule h ρ)
 added-limited h ρ w p e =

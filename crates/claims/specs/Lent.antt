@@ -100,7 +100,8 @@ module _ (h : Held) (w : Limited h) (m : Buffers) (room : Enough (length (m .blo
     pairs = l;
   }
 
-  replied-kept : (u : ℕ) (r : Reply) → ((rs : List Run) → r ≡ Answered (Spans rs) → length rs ≤ 97) → Lent-kept (replied h m u r .answer) m (replied h m u r .buffers)
+  replied-kept : (u : ℕ) (r : Reply) → ((rs : List Run) → r ≡ Answered (Spans rs) → length rs ≤ 97) →
+      Lent-kept (replied h m u r .answer) m (replied h m u r .buffers)
   replied-kept u (Contradiction a) f = filled-kept (Answer.Contradiction a) (m .spans) (untouched 0 (m .spans)) (omega arith)
   replied-kept u (Answered Yes) f = filled-kept Answer.Yes (m .spans) (untouched 0 (m .spans)) (omega arith)
   replied-kept u (Answered No) f = filled-kept Answer.No (m .spans) (untouched 0 (m .spans)) (omega arith)
@@ -108,7 +109,8 @@ module _ (h : Held) (w : Limited h) (m : Buffers) (room : Enough (length (m .blo
       let k = flat-length rs in
       let few = f rs refl in
       filled-kept (Answer.Spans (length rs)) (flat rs ++ drop (length (flat rs)) (m .spans))
-      (subst (λ n. Written-in n (m .spans) (flat rs ++ drop (length (flat rs)) (m .spans))) k (written (length (flat rs)) (flat rs) (m .spans) refl (omega (arith, k, few, room .spans)))) few
+      (subst (λ n. Written-in n (m .spans) (flat rs ++ drop (length (flat rs)) (m .spans))) k
+      (written (length (flat rs)) (flat rs) (m .spans) refl (omega (arith, k, few, room .spans)))) few
 
   effect-kept : (o : Outcome) → Stays-limited o → Lent-kept (effect h m o .answer) m (effect h m o .buffers)
   effect-kept (Refused n u) k = all-kept (Answer.Refused n) m refl

@@ -160,25 +160,34 @@ module _ (𝓛 : Laws) where
     reply-then q u (Answered (Spans rs)) d = record {
       holds-then = h;
       limits-then = w;
-      book = subst (λ s. Book h (Asked q u) (record { answer = Answer.Spans (length rs); used = u; pairs = s }) h) (sym (take-at (flat rs) (drop (length (flat rs)) (c .spans)) (2 * length rs) (flat-length rs))) (asked (Answered (Spans rs)) d);
+      book =
+          subst (λ s. Book h (Asked q u) (record { answer = Answer.Spans (length rs); used = u; pairs = s }) h)
+          (sym (take-at (flat rs) (drop (length (flat rs)) (c .spans)) (2 * length rs) (flat-length rs))) (asked (Answered (Spans rs)) d);
       memory = same-memory;
     }
 
     effect-then : (o : Outcome) → Stays-limited o → Then h mem c o (effect h (lentTo mem c) o)
     effect-then (Refused n u) k = record { holds-then = h; limits-then = w; book = refused; memory = same-memory }
     effect-then Ended k = record { holds-then = h; limits-then = w; book = ended; memory = same-memory }
-    effect-then (Changed g u) k = record { holds-then = g; limits-then = k; book = changed; memory = simp append-assoc (take-at (encode g) _ SIZE (𝓛 .length-encode g k)) }
+    effect-then (Changed g u) k = record {
+      holds-then = g;
+      limits-then = k;
+      book = changed;
+      memory = simp append-assoc (take-at (encode g) _ SIZE (𝓛 .length-encode g k));
+    }
     effect-then (Asked q u) k = reply-then q u (answer h q) (answer-decides h (in-range h w) q)
 
     lent-length : length (take (c .lend) (mem ++ c .behind)) ≡ min (c .lend) (SIZE + length (c .behind))
     lent-length = length-take (c .lend) (mem ++ c .behind) ∙ ap (min (c .lend)) (length-append mem (c .behind) ∙ ap (λ n. n + length (c .behind)) size-mem)
 
     -- a block that is long enough begins with the memory
-    lent-block : SIZE ≤ length (take (c .lend) (mem ++ c .behind)) → take (c .lend) (mem ++ c .behind) ≡ encode h ++ drop SIZE (take (c .lend) (mem ++ c .behind))
+    lent-block : SIZE ≤ length (take (c .lend) (mem ++ c .behind)) →
+        take (c .lend) (mem ++ c .behind) ≡ encode h ++ drop SIZE (take (c .lend) (mem ++ c .behind))
     lent-block k =
         let x = mem ++ c .behind in
         let f : take SIZE (take (c .lend) x) ≡ encode h =
-        sym (take-append-le SIZE (take (c .lend) x) (drop (c .lend) x) k) ∙ (ap (take SIZE) (take-append-drop (c .lend) x) ∙ (take-at mem (c .behind) SIZE size-mem ∙ e)) in
+        sym (take-append-le SIZE (take (c .lend) x) (drop (c .lend) x) k)
+        ∙ (ap (take SIZE) (take-append-drop (c .lend) x) ∙ (take-at mem (c .behind) SIZE size-mem ∙ e)) in
         sym (take-append-drop SIZE (take (c .lend) x)) ∙ ap (λ y. y ++ drop SIZE (take (c .lend) x)) f
 
     -- a call on lent memory that is long enough finds what is held
@@ -203,7 +212,8 @@ module _ (𝓛 : Laws) where
         (ask : Held → Outcome) → Stays-limited (ask h) →
         Then h mem c (cond (shortFed (min (c .lend) (SIZE + length (c .behind)))) (Refused 1 0) (ask h)) (onLent lending (ask (readHeld (lending .block))))
     lent-then ask k =
-        subst (λ n. Then h mem c (cond (shortFed n) (Refused 1 0) (ask h)) (onLent lending (ask (readHeld (lending .block))))) lent-length (go (short lending) refl)
+        subst (λ n. Then h mem c (cond (shortFed n) (Refused 1 0) (ask h)) (onLent lending (ask (readHeld (lending .block))))) lent-length
+        (go (short lending) refl)
       where
         good-then : (g : Bool) → g ≡ true → (x : Held) → x ≡ h → Then h mem c (ask h) (by-lent ask x false g)
         good-then true f x q = subst (λ (v : Held). Then h mem c (ask h) (effect v lending (ask v))) (sym q) (effect-then (ask h) k)

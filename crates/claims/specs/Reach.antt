@@ -62,17 +62,17 @@ links-lent = replicate LINK-ENTRIES 0
 spans-lent : List ℤ
 spans-lent = replicate SPAN-NUMBERS (pos 0)
 
-length-labels : length labels-lent ≡ LABEL-ENTRIES
+labels-long : length labels-lent ≡ LABEL-ENTRIES
 unfolding labels-lent
-length-labels = length-replicate {A = ℕ} LABEL-ENTRIES 0
+labels-long = length-replicate {A = ℕ} LABEL-ENTRIES 0
 
-length-links : length links-lent ≡ LINK-ENTRIES
+links-long : length links-lent ≡ LINK-ENTRIES
 unfolding links-lent
-length-links = length-replicate {A = ℕ} LINK-ENTRIES 0
+links-long = length-replicate {A = ℕ} LINK-ENTRIES 0
 
-length-spans : length spans-lent ≡ SPAN-NUMBERS
+spans-long : length spans-lent ≡ SPAN-NUMBERS
 unfolding spans-lent
-length-spans = length-replicate SPAN-NUMBERS (pos 0)
+spans-long = length-replicate SPAN-NUMBERS (pos 0)
 
 -- a record that says a command under the settings
 pub record Written (σ : Settings) (c : Command) : Type 0 where
@@ -82,7 +82,8 @@ pub record Written (σ : Settings) (c : Command) : Type 0 where
   pub reads : parse σ bytes ≡ Parsed.Record c body used
 
 -- in a list without doubles nothing before an element is like it
-not-before : {X : Type 0} (alike : X → X → Bool) → ((x y : X) → T (alike x y) → x ≡ y) → ((x : X) → T (alike x x)) → (done : List X) (x : X) (todo : List X) → T (once alike (done ++ (x ∷ todo))) → some (alike x) done ≡ false
+not-before : {X : Type 0} (alike : X → X → Bool) → ((x y : X) → T (alike x y) → x ≡ y) → ((x : X) → T (alike x x)) →
+    (done : List X) (x : X) (todo : List X) → T (once alike (done ++ (x ∷ todo))) → some (alike x) done ≡ false
 unfolding some once
 not-before alike eq self [] x todo t = refl
 not-before alike eq self (d ∷ done) x todo t = go (alike x d) (λ u. eq x d u) (not-before alike eq self done x todo (w .1))
@@ -95,20 +96,28 @@ not-before alike eq self (d ∷ done) x todo t = go (alike x d) (λ u. eq x d u)
     clash false s u = u
 
     go : (b : Bool) → (T b → x ≡ d) → some (alike x) done ≡ false → (b || some (alike x) done) ≡ false
-    go true f e = absurd (clash (some (alike d) (done ++ (x ∷ todo))) (w .0) (in-some (alike d) (done ++ (x ∷ todo)) x (Memᴰ·append-right done (List·Memᴰ·head refl)) (subst (λ v. T (alike v x)) (f tt) (self x))))
+    go true f e =
+        absurd (clash (some (alike d) (done ++ (x ∷ todo))) (w .0)
+        (in-some (alike d) (done ++ (x ∷ todo)) x (Memᴰ·append-right done (List·Memᴰ·head refl))
+        (subst (λ v. T (alike v x)) (f tt) (self x))))
     go false f e = e
 
 -- room for a new depth: with it there are at most 96
-room : (done todo : List Mark) (m : Mark) → depthCount (done ++ (m ∷ todo)) ≤ DEPTHS → (not (some (marksAt (m .depth)) done) && leb DEPTHS (depthCount done)) ≡ false
+room : (done todo : List Mark) (m : Mark) → depthCount (done ++ (m ∷ todo)) ≤ DEPTHS →
+    (not (some (marksAt (m .depth)) done) && leb DEPTHS (depthCount done)) ≡ false
 room done todo m h = go (some (marksAt (m .depth)) done) (λ n. old n)
   where
     old : m .depth ∈ depthsOf done → T (some (marksAt (m .depth)) done)
-    old n = let v = depths-only done (m .depth) n in in-some (marksAt (m .depth)) done (v .0) (v .1) (subst (λ x. T (marksAt (m .depth) (record { atom = v .0 .atom; depth = x }))) (sym (v .2)) (depth-same (m .depth)))
+    old n =
+        let v = depths-only done (m .depth) n in
+        in-some (marksAt (m .depth)) done (v .0) (v .1)
+        (subst (λ x. T (marksAt (m .depth) (record { atom = v .0 .atom; depth = x }))) (sym (v .2)) (depth-same (m .depth)))
 
     all : (x : ℤ) → x ∈ insert (m .depth) (depthsOf done) → x ∈ depthsOf (done ++ (m ∷ todo))
     all x n = ⊎-elim
         (λ e. subst (λ v. v ∈ depthsOf (done ++ (m ∷ todo))) (sym e) (depths-in (done ++ (m ∷ todo)) m (Memᴰ·append-right done (List·Memᴰ·head refl))))
-        (λ o. let (k, p, e) = depths-only done x o in subst (λ v. v ∈ depthsOf (done ++ (m ∷ todo))) e (depths-in (done ++ (m ∷ todo)) k (Memᴰ·append-left (m ∷ todo) p)))
+        (λ o. let (k, p, e) = depths-only done x o in
+        subst (λ v. v ∈ depthsOf (done ++ (m ∷ todo))) e (depths-in (done ++ (m ∷ todo)) k (Memᴰ·append-left (m ∷ todo) p)))
         (insert-only (m .depth) x (depthsOf done) n)
 
     more : (m .depth ∈ depthsOf done → ⊥) → {ys : List ℤ} → Inserted (m .depth) (depthsOf done) ys → length ys ≡ suc (length (depthsOf done))
@@ -118,10 +127,13 @@ room done todo m h = go (some (marksAt (m .depth)) done) (λ n. old n)
     go : (b : Bool) → (m .depth ∈ depthsOf done → T b) → (not b && leb DEPTHS (depthCount done)) ≡ false
     go true f = refl
     go false f =
-        let w = within-length (insert (m .depth) (depthsOf done)) (depthsOf (done ++ (m ∷ todo))) (insert-asc (m .depth) (depthsOf done) (depths-asc done)) (depths-asc (done ++ (m ∷ todo))) all in
+        let w =
+        within-length (insert (m .depth) (depthsOf done)) (depthsOf (done ++ (m ∷ todo)))
+        (insert-asc (m .depth) (depthsOf done) (depths-asc done)) (depths-asc (done ++ (m ∷ todo))) all in
         below DEPTHS (depthCount done) (omega (arith, more f (inserted (m .depth) (depthsOf done)), depth-count done, depth-count (done ++ (m ∷ todo))))
 
-module _ (𝓛 : Laws) (rule-record : (σ : Settings) (ρ : Rule) → T (isRule ρ) → Written σ (Command.Add ρ)) (mark-record : (σ : Settings) (m : Mark) → T (isMark m) → Written σ (Command.Put m)) where
+module _ (𝓛 : Laws) (rule-record : (σ : Settings) (ρ : Rule) → T (isRule ρ) → Written σ (Command.Add ρ))
+    (mark-record : (σ : Settings) (m : Mark) → T (isMark m) → Written σ (Command.Put m)) where
   record Reached (h : Held) : Type 0 where
     events : List Event
     held : Limited h
@@ -134,9 +146,9 @@ module _ (𝓛 : Laws) (rule-record : (σ : Settings) (ρ : Rule) → T (isRule 
       (h k : Held) (c : Command) (w : Written (h .settings) c) → tested (listTests h c (w .body)) ≡ Tested.Passed →
       ((u : ℕ) → obey h c (w .body) u ≡ Changed k u) → Reached h → Reached k
   one-more-record h k c w e f R =
-      let a = not-short (length labels-lent) LABEL-ENTRIES (omega (arith, length-labels)) in
-      let b = not-short (length links-lent) LINK-ENTRIES (omega (arith, length-links)) in
-      let d = not-short (length spans-lent) SPAN-NUMBERS (omega (arith, length-spans)) in
+      let a = not-short (length labels-lent) LABEL-ENTRIES (omega (arith, labels-long)) in
+      let b = not-short (length links-lent) LINK-ENTRIES (omega (arith, links-long)) in
+      let d = not-short (length spans-lent) SPAN-NUMBERS (omega (arith, spans-long)) in
       let o : outcome h (fed lending (w .bytes)) ≡ Changed k (w .used) = rw (a, b, d, w .reads, e) (f (w .used)) in
       let A = call-then 𝓛 h (R .held) (memories (zeros SIZE) (R .events)) (R .memory) lending (w .bytes) in
       let q : A .holds-then ≡ k = then-is (book-at o (A .book)) in

@@ -57,7 +57,8 @@ reply-keeps : (h : Held) (m : Buffers) (u : ℕ) (r : Reply) → Keeps (replied 
 reply-keeps h m u (Contradiction a) = record { block = λ f. refl; tables = λ e. clash (cc); spans = λ f. refl; ended = λ e. clash (cc) }
 reply-keeps h m u (Answered Yes) = record { block = λ f. refl; tables = λ e. clash (cc); spans = λ f. refl; ended = λ e. clash (cc) }
 reply-keeps h m u (Answered No) = record { block = λ f. refl; tables = λ e. clash (cc); spans = λ f. refl; ended = λ e. clash (cc) }
-reply-keeps h m u (Answered (Spans rs)) = record { block = λ f. refl; tables = λ e. clash (cc); spans = λ f. absurd (f (length rs) refl); ended = λ e. clash (cc) }
+reply-keeps h m u (Answered (Spans rs)) =
+    record { block = λ f. refl; tables = λ e. clash (cc); spans = λ f. absurd (f (length rs) refl); ended = λ e. clash (cc) }
 
 effect-keeps : (h : Held) (m : Buffers) (o : Outcome) → Keeps (effect h m o .answer) m (effect h m o .buffers)
 effect-keeps h m (Refused n u) = record { block = λ f. refl; tables = λ e. clash (cc); spans = λ f. refl; ended = λ e. refl }

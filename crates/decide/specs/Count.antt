@@ -13,7 +13,8 @@ use Rattle.terms.specs.Order.{ints}
 use Rattle.terms.specs.Held.{_∈_, Held}
 use Rattle.terms.specs.Same.{sameDepth, same-depth, depth-same}
 use Rattle.terms.specs.Lists.{some, depthCount}
-use Rattle.line.specs.Cuts.{Asc, insert, insert-has, insert-keeps, insert-asc, insert-again, Inserted, was-there, one-more, inserted, depthsOf, depths-only, cuts-few}
+use Rattle.line.specs.Cuts.{Asc, insert, insert-has, insert-keeps, insert-asc, insert-again, Inserted}
+use Rattle.line.specs.Cuts.{was-there, one-more, inserted, depthsOf, depths-only, cuts-few}
 use Rattle.line.specs.Intervals.{cutsOf}
 use Rattle.terms.specs.Limited.{some-in, in-some, Limited}
 
@@ -25,7 +26,9 @@ depths-asc (m ∷ ms) = insert-asc (m .depth) (depthsOf ms) (depths-asc ms)
 
 pub depths-in : (ms : List Mark) (m : Mark) → m ∈ ms → m .depth ∈ depthsOf ms
 depths-in [] m n = absurd (List·Memᴰ·not-nil n)
-depths-in (k ∷ ms) m n = ⊎-elim (λ e. subst (λ (v : Mark). v .depth ∈ insert (k .depth) (depthsOf ms)) (sym e) (insert-has (k .depth) (depthsOf ms))) (λ o. insert-keeps (k .depth) (m .depth) (depthsOf ms) (depths-in ms m o)) (List·Memᴰ·cases-cons n)
+depths-in (k ∷ ms) m n =
+    ⊎-elim (λ e. subst (λ (v : Mark). v .depth ∈ insert (k .depth) (depthsOf ms)) (sym e) (insert-has (k .depth) (depthsOf ms)))
+    (λ o. insert-keeps (k .depth) (m .depth) (depthsOf ms) (depths-in ms m o)) (List·Memᴰ·cases-cons n)
 
 -- an ascending list within another is no longer
 pub within-length : (xs ys : List ℤ) → Asc xs → Asc ys → ((x : ℤ) → x ∈ xs → x ∈ ys) → length xs ≤ length ys
@@ -52,9 +55,13 @@ some-depth d ms t = let w = some-in (marksAt d) ms t in subst (λ v. v ∈ depth
 pub depth-count : (ms : List Mark) → depthCount ms ≡ length (depthsOf ms)
 unfolding depthCount
 depth-count [] = refl
-depth-count (m ∷ ms) = go (some (marksAt (m .depth)) ms) (λ t. some-depth (m .depth) ms t) (λ n. depth-some (m .depth) ms n) (inserted (m .depth) (depthsOf ms)) (depth-count ms)
+depth-count (m ∷ ms) =
+    go (some (marksAt (m .depth)) ms) (λ t. some-depth (m .depth) ms t) (λ n. depth-some (m .depth) ms n)
+    (inserted (m .depth) (depthsOf ms)) (depth-count ms)
   where
-    go : (b : Bool) → (T b → m .depth ∈ depthsOf ms) → (m .depth ∈ depthsOf ms → T b) → {ys : List ℤ} → Inserted (m .depth) (depthsOf ms) ys → depthCount ms ≡ length (depthsOf ms) → cond b 0 1 + depthCount ms ≡ length (insert (m .depth) (depthsOf ms))
+    go : (b : Bool) → (T b → m .depth ∈ depthsOf ms) → (m .depth ∈ depthsOf ms → T b) → {ys : List ℤ} →
+        Inserted (m .depth) (depthsOf ms) ys → depthCount ms ≡ length (depthsOf ms) →
+        cond b 0 1 + depthCount ms ≡ length (insert (m .depth) (depthsOf ms))
     go true f g i e = omega (arith, ap length (insert-again (m .depth) (depthsOf ms) (depths-asc ms) (f tt)), e)
     go false f g i e = fresh (inserted (m .depth) (depthsOf ms))
       where

@@ -180,7 +180,9 @@ module _ (h : Held) (R : InRange h) where
       (i, exact-at h (Has a NEVER) p t i d)
 
   no-clash : (a : ℕ) (i : ℤ) → clashes h (model h) a ≡ false → Derived h (Has a NEVER) i → ⊥
-  no-clash a i e d = any-no (count h) (λ p. mem (fact (Has a NEVER) p) (model h)) e (interval h i) (omega (arith, upto-length (cutsOf h) i)) (exact h (Has a NEVER) i .1 d)
+  no-clash a i e d =
+      any-no (count h) (λ p. mem (fact (Has a NEVER) p) (model h)) e (interval h i) (omega (arith, upto-length (cutsOf h) i))
+      (exact h (Has a NEVER) i .1 d)
 
   ranged : (x : ℤ) → x ∈ cutsOf h → (NO-TOP <ℤ x) × (x ≤ℤ NO-BOTTOM)
   ranged x m =
@@ -195,7 +197,11 @@ module _ (h : Held) (R : InRange h) where
       go false e = (table, s, e)
   plain (Question.Spans a A) s =
       let L = runs-longest (cutsOf h) (cuts-asc (h .marks)) ranged (λ p. mem (fact (Has a A) p) (model h)) in
-      record { apart = L .apart; exact = λ i. (λ c D S. true-in-all h R D S (exact h (Has a A) i .0 (L .exact i .0 c)), λ f. L .exact i .1 (of-true (f table s))) }
+      record {
+        apart = L .apart;
+        exact =
+            λ i. (λ c D S. true-in-all h R D S (exact h (Has a A) i .0 (L .exact i .0 c)), λ f. L .exact i .1 (of-true (f table s)));
+      }
 
   pub answer-decides : (q : Question) → Decides h q (answer h q)
   unfolding answer

@@ -61,16 +61,22 @@ module _ (h : Held) (few : length (cutsOf h) ≤ CUTS) where
   unfolding labelEntry
   label-bit t a A p l k b =
       one-or-not (mem (fact (Has a A) p) (model h)) (bitAt (getD (labelTable h ++ t) (a * INTERVALS + p) 0) A)
-      (ap (λ x. bitAt x A) (List·getD-append (labelTable h) t 0 (a * INTERVALS + p) (omega (arith, length-labels h)) ∙ label-entry h few a p l b) ∙ bit-of (λ A. mem (fact (Has a A) p) (model h)) LABELS A k)
+      (ap (λ x. bitAt x A)
+      (List·getD-append (labelTable h) t 0 (a * INTERVALS + p) (omega (arith, length-labels h)) ∙ label-entry h few a p l b)
+      ∙ bit-of (λ A. mem (fact (Has a A) p) (model h)) LABELS A k)
 
-  link-bit : (t : List ℕ) (a r b p : ℕ) → a < ITEMS → r < KINDS → b < ITEMS → p < INTERVALS → eqb (bitAt (getD (linkTable h ++ t) ((a * ITEMS + b) * INTERVALS + p) 0) r) 1 ≡ mem (fact (Linked a r b) p) (model h)
+  link-bit : (t : List ℕ) (a r b p : ℕ) → a < ITEMS → r < KINDS → b < ITEMS → p < INTERVALS →
+      eqb (bitAt (getD (linkTable h ++ t) ((a * ITEMS + b) * INTERVALS + p) 0) r) 1 ≡ mem (fact (Linked a r b) p) (model h)
   unfolding linkEntry
   link-bit t a r b p l k m q =
       one-or-not (mem (fact (Linked a r b) p) (model h)) (bitAt (getD (linkTable h ++ t) ((a * ITEMS + b) * INTERVALS + p) 0) r)
-      (ap (λ x. bitAt x r) (List·getD-append (linkTable h) t 0 ((a * ITEMS + b) * INTERVALS + p) (omega (arith, length-links h)) ∙ link-entry h few a b p l m q) ∙ bit-of (λ r. mem (fact (Linked a r b) p) (model h)) KINDS r k)
+      (ap (λ x. bitAt x r)
+      (List·getD-append (linkTable h) t 0 ((a * ITEMS + b) * INTERVALS + p) (omega (arith, length-links h))
+      ∙ link-entry h few a b p l m q) ∙ bit-of (λ r. mem (fact (Linked a r b) p) (model h)) KINDS r k)
 
   -- a statement's bit at a depth's interval
-  pub holds-is : (t u : List ℕ) (x : Atom) (i : ℤ) → T (isStatement x) → holdsIn (labelTable h ++ t) (linkTable h ++ u) x (interval h i) ≡ mem (fact x (interval h i)) (model h)
+  pub holds-is : (t u : List ℕ) (x : Atom) (i : ℤ) → T (isStatement x) →
+      holdsIn (labelTable h ++ t) (linkTable h ++ u) x (interval h i) ≡ mem (fact x (interval h i)) (model h)
   holds-is t u (Has a A) i s = let w = label-names a A s in label-bit t a A (interval h i) (w .0) (w .1) (omega (arith, upto-length (cutsOf h) i))
   holds-is t u (Linked a r b) i s = let w = link-names a r b s in link-bit u a r b (interval h i) (w .0) (w .1) (w .2) (omega (arith, upto-length (cutsOf h) i))
 
@@ -98,7 +104,9 @@ module _ (h : Held) (few : length (cutsOf h) ≤ CUTS) where
   lowest-same zero a f g e = refl
   lowest-same (suc n) a f g e = go (f a) (g a) (e a (omega arith)) (lowest-same n (suc a) f g (λ b l. e b (omega arith)))
     where
-      go : (s t : Bool) → s ≡ t → lowestOf f n (suc a) ≡ lowestOf g n (suc a) → _≡_ {A = Lookup} (elim s [ true ↦ first a | false ↦ lowestOf f n (suc a) ]) (elim t [ true ↦ first a | false ↦ lowestOf g n (suc a) ])
+      go : (s t : Bool) → s ≡ t → lowestOf f n (suc a) ≡ lowestOf g n (suc a) →
+          _≡_ {A = Lookup} (elim s [ true ↦ first a | false ↦ lowestOf f n (suc a) ])
+          (elim t [ true ↦ first a | false ↦ lowestOf g n (suc a) ])
       go true true d k = refl
       go true false d k = true-false d
       go false true d k = true-false (sym d)
@@ -114,7 +122,8 @@ module _ (h : Held) (few : length (cutsOf h) ≤ CUTS) where
   runs-same cs f g (suc n) p outside e = go (f p) (g p) (e p (omega arith)) (λ c. runs-same cs f g n (suc p) c (λ q l. e q (omega arith)))
     where
       go : (s t : Bool) → s ≡ t → ((c : Begun) → runsFrom cs f n (suc p) c ≡ runsFrom cs g n (suc p) c)
-          → _≡_ {A = List Run} (elim s [ true ↦ runsFrom cs f n (suc p) (since p) | false ↦ runsFrom cs f n (suc p) outside ]) (elim t [ true ↦ runsFrom cs g n (suc p) (since p) | false ↦ runsFrom cs g n (suc p) outside ])
+          → _≡_ {A = List Run} (elim s [ true ↦ runsFrom cs f n (suc p) (since p) | false ↦ runsFrom cs f n (suc p) outside ])
+          (elim t [ true ↦ runsFrom cs g n (suc p) (since p) | false ↦ runsFrom cs g n (suc p) outside ])
       go true true d k = k (since p)
       go true false d k = true-false d
       go false true d k = true-false (sym d)
@@ -122,26 +131,42 @@ module _ (h : Held) (few : length (cutsOf h) ≤ CUTS) where
   runs-same cs f g (suc n) p (since s) e = go (f p) (g p) (e p (omega arith)) (λ c. runs-same cs f g n (suc p) c (λ q l. e q (omega arith)))
     where
       go : (u t : Bool) → u ≡ t → ((c : Begun) → runsFrom cs f n (suc p) c ≡ runsFrom cs g n (suc p) c)
-          → _≡_ {A = List Run} (elim u [ true ↦ runsFrom cs f n (suc p) (since s) | false ↦ run (top-of cs s) (bottom-of cs (pred p)) ∷ runsFrom cs f n (suc p) outside ])
+          → _≡_ {A = List Run}
+          (elim u [
+            | true ↦ runsFrom cs f n (suc p) (since s)
+            | false ↦ run (top-of cs s) (bottom-of cs (pred p)) ∷ runsFrom cs f n (suc p) outside
+          ])
           (elim t [ true ↦ runsFrom cs g n (suc p) (since s) | false ↦ run (top-of cs s) (bottom-of cs (pred p)) ∷ runsFrom cs g n (suc p) outside ])
       go true true d k = k (since s)
       go true false d k = true-false d
       go false true d k = true-false (sym d)
       go false false d k = ap (λ rs. run (top-of cs s) (bottom-of cs (pred p)) ∷ rs) (k outside)
 
-  pub runs-is : (t : List ℕ) (a A : ℕ) → a < ITEMS → A < LABELS → runs (cutsOf h) (hasLabel (labelTable h ++ t) a A) ≡ runs (cutsOf h) (λ p. mem (fact (Has a A) p) (model h))
+  pub runs-is : (t : List ℕ) (a A : ℕ) → a < ITEMS → A < LABELS →
+      runs (cutsOf h) (hasLabel (labelTable h ++ t) a A) ≡ runs (cutsOf h) (λ p. mem (fact (Has a A) p) (model h))
   unfolding runs
-  runs-is t a A l k = runs-same (cutsOf h) (hasLabel (labelTable h ++ t) a A) (λ p. mem (fact (Has a A) p) (model h)) (count h) 0 outside (λ q b. label-bit t a A q l k (omega arith))
+  runs-is t a A l k =
+      runs-same (cutsOf h) (hasLabel (labelTable h ++ t) a A) (λ p. mem (fact (Has a A) p) (model h)) (count h) 0 outside
+      (λ q b. label-bit t a A q l k (omega arith))
 
   -- ---- the answer, by the tables
 
-  ask-is : (t u : List ℕ) (x : Atom) (i : ℤ) → T (isStatement x) → answer h (Question.Holds x i) ≡ clashOr (lowestOf (neverIn (labelTable h ++ t)) ITEMS 0) (cond (holdsIn (labelTable h ++ t) (linkTable h ++ u) x (interval h i)) Yes No)
+  ask-is : (t u : List ℕ) (x : Atom) (i : ℤ) → T (isStatement x) →
+      answer h (Question.Holds x i)
+      ≡ clashOr (lowestOf (neverIn (labelTable h ++ t)) ITEMS 0)
+      (cond (holdsIn (labelTable h ++ t) (linkTable h ++ u) x (interval h i)) Yes No)
   unfolding answer
-  ask-is t u x i s = sym (ap (λ l. clashOr l (cond (holdsIn (labelTable h ++ t) (linkTable h ++ u) x (interval h i)) Yes No)) (clash-is t) ∙ ap (λ b. clashOr (lowestOf (clashes h (model h)) ITEMS 0) (cond b Yes No)) (holds-is t u x i s))
+  ask-is t u x i s =
+      sym (ap (λ l. clashOr l (cond (holdsIn (labelTable h ++ t) (linkTable h ++ u) x (interval h i)) Yes No)) (clash-is t)
+      ∙ ap (λ b. clashOr (lowestOf (clashes h (model h)) ITEMS 0) (cond b Yes No)) (holds-is t u x i s))
 
-  spans-is : (t : List ℕ) (a A : ℕ) → a < ITEMS → A < LABELS → answer h (Question.Spans a A) ≡ clashOr (lowestOf (neverIn (labelTable h ++ t)) ITEMS 0) (Spans (runs (cutsOf h) (hasLabel (labelTable h ++ t) a A)))
+  spans-is : (t : List ℕ) (a A : ℕ) → a < ITEMS → A < LABELS →
+      answer h (Question.Spans a A)
+      ≡ clashOr (lowestOf (neverIn (labelTable h ++ t)) ITEMS 0) (Spans (runs (cutsOf h) (hasLabel (labelTable h ++ t) a A)))
   unfolding answer
-  spans-is t a A l k = sym (ap (λ o. clashOr o (Spans (runs (cutsOf h) (hasLabel (labelTable h ++ t) a A)))) (clash-is t) ∙ ap (λ rs. clashOr (lowestOf (clashes h (model h)) ITEMS 0) (Spans rs)) (runs-is t a A l k))
+  spans-is t a A l k =
+      sym (ap (λ o. clashOr o (Spans (runs (cutsOf h) (hasLabel (labelTable h ++ t) a A)))) (clash-is t)
+      ∙ ap (λ rs. clashOr (lowestOf (clashes h (model h)) ITEMS 0) (Spans rs)) (runs-is t a A l k))
 
 -- what the tables say of a question on a line with these cuts, where nothing is contradictory
 abbrev pub tableVerdict : List ℤ → List ℕ → List ℕ → Question → Verdict
@@ -182,4 +207,6 @@ spans-fit h few q rs e = go (lowestOf (clashes h (model h)) ITEMS 0) q e
     go : (r : Lookup) (p : Question) → clashOr r (verdict h (model h) p) ≡ Answered (Spans rs) → length rs ≤ 97
     go (first a) p d = clash (cc)
     go absent (Question.Holds x i) d = said (mem (fact x (interval h i)) (model h)) d
-    go absent (Question.Spans a A) d = same (runs (cutsOf h) (λ p. mem (fact (Has a A) p) (model h))) (runs-fit (cutsOf h) (λ p. mem (fact (Has a A) p) (model h)) few .0) d
+    go absent (Question.Spans a A) d =
+        same (runs (cutsOf h) (λ p. mem (fact (Has a A) p) (model h)))
+        (runs-fit (cutsOf h) (λ p. mem (fact (Has a A) p) (model h)) few .0) d

@@ -78,7 +78,47 @@ Checked (c ∷ cs) = T (limits (c .held)) × (answer (c .held) (c .question) ≡
 
 checked : Checked cases
 unfolding limits every once some depthCount answer model runs
-checked = (tt, refl, (tt, refl, (tt, refl, (tt, refl, (tt, refl, (tt, refl, (tt, refl, (tt, refl, (tt, refl, (tt, refl, (tt, refl, (tt, refl, (tt, refl, (tt, refl, (tt, refl, (tt, refl, tt))))))))))))))))
+checked = (
+  tt,
+  refl,
+  (
+    tt,
+    refl,
+    (
+      tt,
+      refl,
+      (
+        tt,
+        refl,
+        (
+          tt,
+          refl,
+          (
+            tt,
+            refl,
+            (
+              tt,
+              refl,
+              (
+                tt,
+                refl,
+                (
+                  tt,
+                  refl,
+                  (
+                    tt,
+                    refl,
+                    (tt, refl, (tt, refl, (tt, refl, (tt, refl, (tt, refl, (tt, refl, tt)))))),
+                  ),
+                ),
+              ),
+            ),
+          ),
+        ),
+      ),
+    ),
+  ),
+)
 
 each : (cs : List Case) → Checked cs → (c : Case) → c ∈ cs → Decides (c .held) (c .question) (c .reply)
 each [] t c m = absurd (List·Memᴰ·not-nil m)

@@ -107,7 +107,8 @@ module _ {X : Type 0} (f : X → Bool) where
     missing h = some-place xs ∙ le-ltb (indexOf f xs) (length xs) (omega arith)
 
 -- one step of the count of distinct numbers
-pub distinct-step : (ks : List ℕ) (i : ℕ) → i < length ks → distinct (drop i ks) ≡ cond (some (eqb (getD ks i 0)) (drop (i + 1) ks)) 0 1 + distinct (drop (i + 1) ks)
+pub distinct-step : (ks : List ℕ) (i : ℕ) → i < length ks →
+    distinct (drop i ks) ≡ cond (some (eqb (getD ks i 0)) (drop (i + 1) ks)) 0 1 + distinct (drop (i + 1) ks)
 unfolding distinct
 distinct-step ks i h = rw (drop-cons ks i 0 h, add-one i)
 
@@ -116,7 +117,8 @@ unfolding distinct
 distinct-end ks = rw (drop-length ks)
 
 -- those behind a gap move up by one
-pub gap-more : {X : Type 0} (xs left l : List X) (i : ℕ) (d : X) → i < length left → i + 1 < length xs → take i left ++ drop (i + 1) xs ≡ l → take (i + 1) (set left i (getD xs (i + 1) d)) ++ drop (i + 1 + 1) xs ≡ l
+pub gap-more : {X : Type 0} (xs left l : List X) (i : ℕ) (d : X) → i < length left → i + 1 < length xs →
+    take i left ++ drop (i + 1) xs ≡ l → take (i + 1) (set left i (getD xs (i + 1) d)) ++ drop (i + 1 + 1) xs ≡ l
 gap-more xs left l i d h k e =
     rw (take-more-set left i (getD xs (i + 1) d) h, append-assoc (take i left) (getD xs (i + 1) d ∷ []) (drop (i + 1 + 1) xs), add-one (i + 1))
     (rw (drop-cons xs (i + 1) d k) at e)
@@ -136,7 +138,8 @@ unfolding distinct once
 distinct-once [] = refl
 distinct-once (k ∷ ks) = go (some (eqb k) ks) (distinct-few ks) (distinct-once ks)
   where
-    go : (t : Bool) → distinct ks ≤ length ks → eqb (distinct ks) (length ks) ≡ once eqb ks → eqb (cond t 0 1 + distinct ks) (suc (length ks)) ≡ not t && once eqb ks
+    go : (t : Bool) → distinct ks ≤ length ks → eqb (distinct ks) (length ks) ≡ once eqb ks →
+        eqb (cond t 0 1 + distinct ks) (suc (length ks)) ≡ not t && once eqb ks
     go true h e = ne-eqb (0 + distinct ks) (suc (length ks)) (λ q. omega arith)
     go false h e = let q : 1 + distinct ks ≡ suc (distinct ks) = omega arith in rw q (eqb·suc-suc (distinct ks) (length ks) ∙ e)
 

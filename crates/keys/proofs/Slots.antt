@@ -84,7 +84,9 @@ module _ (keys : List ℕ) where
           record {
             size = simp length-set (w .size);
             taken = λ b j p q. slot-after (λ v. 0 < v) slots here at (slotOf (getD keys j 0)) inside (λ _. b) (taken-before j p q);
-            places = λ s. slot-after (λ v. 0 < v → (at ≤ v) × (v < length keys)) slots here at s inside (λ _ _. (omega arith, omega arith)) (λ _ p. let k = w .places s p in (omega arith, k .1));
+            places = λ s.
+                slot-after (λ v. 0 < v → (at ≤ v) × (v < length keys)) slots here at s inside (λ _ _. (omega arith, omega arith))
+                (λ _ p. let k = w .places s p in (omega arith, k .1));
           }
 
 -- a key that stands where its slot says

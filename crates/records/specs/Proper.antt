@@ -109,7 +109,8 @@ decoded-rows σ b (r ∷ rs) k = go (eqb k (r .number)) (decoded-rows σ b rs k)
         decodedAs (tested (atKind (λ r. r .tests σ b) [] rs k)) (atKind (λ r. r .command b) Command.Reset rs k)
         ≡ atKind (λ r. decodedAs (tested (r .tests σ b)) (r .command b)) (Decoded.Command Command.Reset) rs k →
         decodedAs (tested (cond v (r .tests σ b) (atKind (λ r. r .tests σ b) [] rs k))) (cond v (r .command b) (atKind (λ r. r .command b) Command.Reset rs k))
-        ≡ cond v (decodedAs (tested (r .tests σ b)) (r .command b)) (atKind (λ r. decodedAs (tested (r .tests σ b)) (r .command b)) (Decoded.Command Command.Reset) rs k)
+        ≡ cond v (decodedAs (tested (r .tests σ b)) (r .command b))
+        (atKind (λ r. decodedAs (tested (r .tests σ b)) (r .command b)) (Decoded.Command Command.Reset) rs k)
     go true e = refl
     go false e = e
 
@@ -150,7 +151,8 @@ mark-test m c h σ = two-tests (isMarkable (m .atom)) (isDepth (m .depth)) 6 8 c
 question-test : (q : Question) (σ : Settings) → ProperDecoded (decodedAs (tested (questionTests σ q)) (Command.Ask q))
 question-test q σ = one-test (isQuestion q) 6 (Command.Ask q) (λ t. t)
 
-rule-test : (b : List ℕ) (ρ : Rule) → (T (isOperator (orIdentity (operatorAt b))) → T (isNamed ρ) → T (isRule ρ)) → (σ : Settings) → ProperDecoded (decodedAs (tested (operatorTests σ (operatorAt b) ρ)) (Command.Add ρ))
+rule-test : (b : List ℕ) (ρ : Rule) → (T (isOperator (orIdentity (operatorAt b))) → T (isNamed ρ) → T (isRule ρ)) → (σ : Settings) →
+    ProperDecoded (decodedAs (tested (operatorTests σ (operatorAt b) ρ)) (Command.Add ρ))
 rule-test b ρ h σ = operator-test (isNamed ρ) (operatorAt b) (Command.Add ρ) (read-proper (getD b 0 0) (little 4 b 1)) h
 
 body-proper : (σ : Settings) (k : ℕ) (b : List ℕ) → ProperDecoded (decodeBody σ k b)
@@ -296,46 +298,48 @@ depth-read : (z : ℤ) → SFits w32 z → toZ w32 (little 4 (bytesOfSigned32 z)
 depth-read z f = ap (toZ w32) (little-bytes 4 (ofZ w32 z) (ofZ-fits w32 z f .fits)) ∙ toZ-ofZ w32 z f
 
 -- a mark of its two parts
-abbrev pub markOf : Atom → ℤ → Mark
-markOf x z = record { atom = x; depth = z }
+abbrev pub markWith : Atom → ℤ → Mark
+markWith x z = record { atom = x; depth = z }
 
 -- the mark that a body of such an atom is read as
 abbrev markIn : Atom → List ℕ → Mark
 markIn (Has a A) b = labelMark b
 markIn (Linked a r c) b = linkMark b
 
-mark-in : (x : Atom) (z : ℤ) → SFits w32 z → markIn x (markBody x z) ≡ markOf x z
+mark-in : (x : Atom) (z : ℤ) → SFits w32 z → markIn x (markBody x z) ≡ markWith x z
 unfolding little bytes
-mark-in (Has a A) z f = ap (markOf (Has a A)) (depth-read z f)
-mark-in (Linked a r b) z f = ap (markOf (Linked a r b)) (depth-read z f)
+mark-in (Has a A) z f = ap (markWith (Has a A)) (depth-read z f)
+mark-in (Linked a r b) z f = ap (markWith (Linked a r b)) (depth-read z f)
 
 module _ (σ : Settings) where
   rule-decodes : (ρ : Rule) → T (isRule ρ) → decodeBody σ (ruleKind ρ) (ruleBody ρ) ≡ Decoded.Command (Command.Add ρ)
   unfolding bytes bodyTests commandIn
   rule-decodes (Label o A B) t =
       let h = and-both (isOperator o) (isNamed (Label o A B)) t in
-      operator-passes (isNamed (Label o A B)) (operatorAt (ruleBody (Label o A B))) o (λ (x : Operator). Command.Add (Label x A B)) (h .1) (operator-in o A B (h .0))
+      operator-passes (isNamed (Label o A B)) (operatorAt (ruleBody (Label o A B))) o (λ (x : Operator). Command.Add (Label x A B)) (h .1)
+      (operator-in o A B (h .0))
   rule-decodes (Both A B C) t = named-passes (isNamed (Both A B C)) (Command.Add (Both A B C)) t
   rule-decodes (Link o r s) t =
       let h = and-both (isOperator o) (isNamed (Link o r s)) t in
-      operator-passes (isNamed (Link o r s)) (operatorAt (ruleBody (Link o r s))) o (λ (x : Operator). Command.Add (Link x r s)) (h .1) (operator-in o r s (h .0))
+      operator-passes (isNamed (Link o r s)) (operatorAt (ruleBody (Link o r s))) o (λ (x : Operator). Command.Add (Link x r s)) (h .1)
+      (operator-in o r s (h .0))
   rule-decodes (Via r A B) t = named-passes (isNamed (Via r A B)) (Command.Add (Via r A B)) t
 
   -- a mark under a kind whose body is a mark, and what the command does with it
   mark-decodes :
       (k : Mark → Command) (n : ℕ) (x : Atom) (z : ℤ) → let b = markBody x z in
-      decodeBody σ n b ≡ decodedAs (tested (markTests σ (markIn x b))) (k (markIn x b)) → T (isMark (markOf x z)) →
-      decodeBody σ n b ≡ Decoded.Command (k (markOf x z))
+      decodeBody σ n b ≡ decodedAs (tested (markTests σ (markIn x b))) (k (markIn x b)) → T (isMark (markWith x z)) →
+      decodeBody σ n b ≡ Decoded.Command (k (markWith x z))
   mark-decodes k n x z e t =
       let f : SFits w32 z = depth-fits z (and-both (isMarkable x) (isDepth z) t .1) in
-      e ∙ ap (λ (m : Mark). decodedAs (tested (markTests σ m)) (k m)) (mark-in x z f) ∙ mark-passes (isMarkable x) (isDepth z) (k (markOf x z)) t
+      e ∙ ap (λ (m : Mark). decodedAs (tested (markTests σ m)) (k m)) (mark-in x z f) ∙ mark-passes (isMarkable x) (isDepth z) (k (markWith x z)) t
 
-  put-decodes : (x : Atom) (z : ℤ) → T (isMark (markOf x z)) → decodeBody σ (putKind x) (markBody x z) ≡ Decoded.Command (Command.Put (markOf x z))
+  put-decodes : (x : Atom) (z : ℤ) → T (isMark (markWith x z)) → decodeBody σ (putKind x) (markBody x z) ≡ Decoded.Command (Command.Put (markWith x z))
   unfolding bodyTests commandIn
   put-decodes (Has a A) z t = mark-decodes (λ (m : Mark). Command.Put m) 6 (Has a A) z refl t
   put-decodes (Linked a r b) z t = mark-decodes (λ (m : Mark). Command.Put m) 7 (Linked a r b) z refl t
 
-  take-decodes : (x : Atom) (z : ℤ) → T (isMark (markOf x z)) → decodeBody σ (takeKind x) (markBody x z) ≡ Decoded.Command (Command.Take (markOf x z))
+  take-decodes : (x : Atom) (z : ℤ) → T (isMark (markWith x z)) → decodeBody σ (takeKind x) (markBody x z) ≡ Decoded.Command (Command.Take (markWith x z))
   unfolding bodyTests commandIn
   take-decodes (Has a A) z t = mark-decodes (λ (m : Mark). Command.Take m) 8 (Has a A) z refl t
   take-decodes (Linked a r b) z t = mark-decodes (λ (m : Mark). Command.Take m) 9 (Linked a r b) z refl t

@@ -260,7 +260,7 @@ fn ask_spans(settings: Settings, body: &[u8]) -> Decoded
 }
 
 // The table of kinds: decoders. The frame lets no other kind come here.
-pub fn decode(settings: Settings, kind: u16, body: &[u8]) -> Decoded
+pub fn decode_body(settings: Settings, kind: u16, body: &[u8]) -> Decoded
     requires { ⌜ T (allows (lengthsOf kind) (length (now body) + 2)) ⌝ }
     ensures { λ r. ⌜ r ≡ decodeBody settings kind (now (body .entry)) ⌝ }
 {

@@ -17,8 +17,9 @@ use Rattle.terms.specs.declared.Atom.the-variants.{Has, Linked}
 use Rattle.terms.specs.declared.Mark.{Mark}
 use Rattle.terms.specs.Operators.{codeOf, distanceOf}
 use Rattle.terms.specs.Tests.{both-and, of-true}
-use Rattle.terms.specs.Same.{sameRule, sameOperator, sameMark, sameAtom, sameDepth, kindOf, operatorIn, firstOf, secondOf, thirdOf, same-rule, same-mark, atom-same, same-depth, depth-same}
-use Rattle.scans.specs.Keys.{packed, tagOf, ruleKey, markKey, depthKey, atomKey, Bytes, ByteRule, ByteAtom, MarkFits, DepthFits}
+use Rattle.terms.specs.Same.{sameRule, sameOperator, sameMark, sameAtom, sameDepth, kindOf, operatorIn, firstOf}
+use Rattle.terms.specs.Same.{secondOf, thirdOf, same-rule, same-mark, atom-same, same-depth, depth-same}
+use Rattle.scans.specs.Keys.{packedFields, tagOf, ruleKey, markKey, depthKey, atomKey, Bytes, ByteRule, ByteAtom, MarkFits, DepthFits}
 use Rattle.keys.proofs.Scan.{test-eq}
 
 equal : (a b : ℕ) → a ≡ b → T (eqb a b)
@@ -49,8 +50,9 @@ record Fields (t a b c n t′ a′ b′ c′ n′ : ℕ) : Type 0 where
   third : c ≡ c′
   number : n ≡ n′
 
-fields : (t a b c n t′ a′ b′ c′ n′ : ℕ) → t < 256 → t′ < 256 → Bytes a b c → Bytes a′ b′ c′ → packed t a b c n ≡ packed t′ a′ b′ c′ n′ → Fields t a b c n t′ a′ b′ c′ n′
-unfolding packed
+fields : (t a b c n t′ a′ b′ c′ n′ : ℕ) → t < 256 → t′ < 256 → Bytes a b c → Bytes a′ b′ c′ → packedFields t a b c n ≡ packedFields t′ a′ b′ c′ n′ →
+    Fields t a b c n t′ a′ b′ c′ n′
+unfolding packedFields
 fields t a b c n t′ a′ b′ c′ n′ h h′ w w′ e =
     let d = digit t t′ (a + 256 * (b + 256 * (c + 256 * n))) (a′ + 256 * (b′ + 256 * (c′ + 256 * n′))) h h′ e in
     let f = digit a a′ (b + 256 * (c + 256 * n)) (b′ + 256 * (c′ + 256 * n′)) (w .first) (w′ .first) (d .1) in
@@ -99,8 +101,10 @@ atom-back : (x y : Atom) (i j : ℕ) → ByteAtom x → ByteAtom y → atomKey x
 atom-back (Has a A) (Has b B) i j p q e =
     let w = fields 0 a A 0 i 0 b B 0 j (omega arith) (omega arith) p q e in
     let f = w .first in let g = w .second in (cc, w .number)
-atom-back (Has a A) (Linked b r c) i j p q e = let w = fields 0 a A 0 i 1 b r c j (omega arith) (omega arith) p q e in let t = w .tag in let z : ⊥ = omega arith in absurd z
-atom-back (Linked a r b) (Has c A) i j p q e = let w = fields 1 a r b i 0 c A 0 j (omega arith) (omega arith) p q e in let t = w .tag in let z : ⊥ = omega arith in absurd z
+atom-back (Has a A) (Linked b r c) i j p q e =
+    let w = fields 0 a A 0 i 1 b r c j (omega arith) (omega arith) p q e in let t = w .tag in let z : ⊥ = omega arith in absurd z
+atom-back (Linked a r b) (Has c A) i j p q e =
+    let w = fields 1 a r b i 0 c A 0 j (omega arith) (omega arith) p q e in let t = w .tag in let z : ⊥ = omega arith in absurd z
 atom-back (Linked a r b) (Linked c s d) i j p q e =
     let w = fields 1 a r b i 1 c s d j (omega arith) (omega arith) p q e in
     let f = w .first in let g = w .second in let h = w .third in (cc, w .number)

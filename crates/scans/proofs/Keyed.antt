@@ -69,4 +69,5 @@ module _ {X : Type 0} (key : X → ℕ) (P : X → Type 0) where
 pub distinct-depths : (ms : List Mark) → All DepthFits ms → distinct (map depthKey ms) ≡ depthCount ms
 unfolding distinct depthCount All
 distinct-depths [] a = refl
-distinct-depths (m ∷ ms) a = rw (some-keys depthKey DepthFits (λ m n. sameDepth (m .depth) (n .depth)) depth-exact m ms (a .0) (a .1), distinct-depths ms (a .1))
+distinct-depths (m ∷ ms) a =
+    rw (some-keys depthKey DepthFits (λ m n. sameDepth (m .depth) (n .depth)) depth-exact m ms (a .0) (a .1), distinct-depths ms (a .1))

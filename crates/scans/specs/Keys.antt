@@ -15,8 +15,8 @@ use Rattle.terms.specs.Same.{kindOf, operatorIn, firstOf, secondOf, thirdOf}
 use Rattle.terms.specs.Lists.{some}
 
 -- five fields in one number: four bytes, and n above them
-unfoldable pub packed : ℕ → ℕ → ℕ → ℕ → ℕ → ℕ
-packed tag a b c n = tag + 256 * (a + 256 * (b + 256 * (c + 256 * n)))
+unfoldable pub packedFields : ℕ → ℕ → ℕ → ℕ → ℕ → ℕ
+packedFields tag a b c n = tag + 256 * (a + 256 * (b + 256 * (c + 256 * n)))
 
 -- a rule's kind and its operator's code in one byte
 abbrev pub tagOf : Rule → ℕ
@@ -24,7 +24,7 @@ tagOf ρ = kindOf ρ + 8 * codeOf (operatorIn ρ)
 
 -- a rule by its tag, names and distance
 abbrev pub ruleKey : Rule → ℕ
-ruleKey ρ = packed (tagOf ρ) (firstOf ρ) (secondOf ρ) (thirdOf ρ) (distanceOf (operatorIn ρ))
+ruleKey ρ = packedFields (tagOf ρ) (firstOf ρ) (secondOf ρ) (thirdOf ρ) (distanceOf (operatorIn ρ))
 
 -- a depth by its bits
 abbrev pub depthKey : Mark → ℕ
@@ -32,8 +32,8 @@ depthKey m = ofZ w32 (m .depth)
 
 -- an atom with n beside it
 abbrev pub atomKey : Atom → ℕ → ℕ
-atomKey (Has a A) n = packed 0 a A 0 n
-atomKey (Linked a r b) n = packed 1 a r b n
+atomKey (Has a A) n = packedFields 0 a A 0 n
+atomKey (Linked a r b) n = packedFields 1 a r b n
 
 -- a mark by its atom and depth
 abbrev pub markKey : Mark → ℕ

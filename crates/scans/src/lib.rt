@@ -6,7 +6,7 @@ ghost use Rattle.terms.specs.Held.{rulesIn, isRule, isMark};
 ghost use Rattle.terms.specs.Same.{sameRule, sameMark, sameDepth};
 ghost use Rattle.terms.specs.Lists.{some, every, once, depthCount};
 ghost use Rattle.keys.specs.Search.{indexOf};
-ghost use Rattle.scans.specs.Keys.{packed, ruleKey, markKey, depthKey, ByteRule, MarkFits, DepthFits, Key-of, Keys-of};
+ghost use Rattle.scans.specs.Keys.{packedFields, ruleKey, markKey, depthKey, ByteRule, MarkFits, DepthFits, Key-of, Keys-of};
 use terms::Atom;
 use terms::Mark;
 use terms::Rule;
@@ -14,7 +14,7 @@ use terms::RulePlace;
 
 // Five fields in one number.
 fn pack(tag: u8, first: u8, second: u8, third: u8, n: u32) -> u64
-    ensures { λ r. ⌜ r ≡ packed tag first second third n ⌝ }
+    ensures { λ r. ⌜ r ≡ packedFields tag first second third n ⌝ }
 {
     tag as u64
         + 256 * (first as u64 + 256 * (second as u64 + 256 * (third as u64 + 256 * (n as u64))))

@@ -92,7 +92,8 @@ module _
   by-tables : answer h q ≡ clashOr found said
   by-tables = answer-is h (few s H) (drop LABEL-ENTRIES l) (drop LINK-ENTRIES k) q named
 
-  as-replied : (r : Reply) → answer h q ≡ r → (spans′ : List ℤ) (a : Answer) → a ≡ answerOf r → spans′ ≡ spansAfter r spans → Answered-as h q l k spans l′ k′ spans′ a
+  as-replied : (r : Reply) → answer h q ≡ r → (spans′ : List ℤ) (a : Answer) → a ≡ answerOf r → spans′ ≡ spansAfter r spans →
+      Answered-as h q l k spans l′ k′ spans′ a
   as-replied r e spans′ a f g = record {
     said = f ∙ sym (ap answerOf e);
     tables = S;
@@ -110,4 +111,5 @@ module _
       ap (λ (cs : List ℤ). tableVerdict cs l′ k′ q) (N .list)
       ∙ ap (λ (y : List ℕ). tableVerdict (cutsOf h) y k′ q) (S .label-table)
       ∙ ap (λ (y : List ℕ). tableVerdict (cutsOf h) labels y q) (S .link-table) in
-      as-replied (Answered (tableVerdict (take n cuts) l′ k′ q)) (by-tables ∙ clash-nowhere found said (clash ∙ e) ∙ ap Answered (sym same)) spans′ a (R .said) (R .buffer)
+      as-replied (Answered (tableVerdict (take n cuts) l′ k′ q))
+      (by-tables ∙ clash-nowhere found said (clash ∙ e) ∙ ap Answered (sym same)) spans′ a (R .said) (R .buffer)

@@ -31,7 +31,9 @@ module _ (s : State) (H : Held-state s) where
     rules = record {
       size = H .counts .rule-places;
       few = H .counts .few-rules;
-      each = λ q l. every-in isRule (rulesIn (s .rules) (s .«rule_count»)) (kept .rules) (ruleAt (s .rules) q) (rule-in-places (s .rules) (s .«rule_count») q l (omega (arith, H .counts .few-rules, H .counts .rule-places)));
+      each = λ q l.
+          every-in isRule (rulesIn (s .rules) (s .«rule_count»)) (kept .rules) (ruleAt (s .rules) q)
+          (rule-in-places (s .rules) (s .«rule_count») q l (omega (arith, H .counts .few-rules, H .counts .rule-places)));
     };
     marks = record {
       size = H .counts .mark-places;
@@ -46,7 +48,9 @@ module _ (s : State) (H : Held-state s) where
   line-in w = held-cuts (heldOf s .marks) w few
 
   pub line-low : {line : List ℤ} {r : ℕ} → Now-cuts (cutsOf (heldOf s)) line r → Low-cuts line r
-  line-low w = low-cuts (heldOf s .marks) (λ (m : Mark) n. and-both (isMarkable (m .atom)) (isDepth (m .depth)) (every-in isMark (heldOf s .marks) (kept .marks) m n) .1) w
+  line-low w =
+      low-cuts (heldOf s .marks)
+      (λ (m : Mark) n. and-both (isMarkable (m .atom)) (isDepth (m .depth)) (every-in isMark (heldOf s .marks) (kept .marks) m n) .1) w
 
   pub line-few : {line : List ℤ} {r : ℕ} → Now-cuts (cutsOf (heldOf s)) line r → length (take r line) ≤ CUTS
   line-few w = omega (arith, ap length (w .list), few)

@@ -51,7 +51,8 @@ module _ (b t k : List ℕ) (s : List ℤ) where
       afterOf r b′ t k s ≡ effect h m (onTested (Changed then u) (λ n. Refused n u) (tested tests))
   changed h then tests u l b′ r L K = go (tested tests) (L .said) (L .held)
     where
-      go : (v : Tested) → l .tested ≡ v → heldOf (l .state) ≡ onTested then (λ n. h) v → afterOf r b′ t k s ≡ effect h m (onTested (Changed then u) (λ n. Refused n u) v)
+      go : (v : Tested) → l .tested ≡ v → heldOf (l .state) ≡ onTested then (λ n. h) v →
+          afterOf r b′ t k s ≡ effect h m (onTested (Changed then u) (λ n. Refused n u) v)
       go Tested.Passed e f =
           let kept : List ℕ = encode (heldOf (l .state)) ++ drop SIZE b in
           parts (K .said ∙ ap (onTested Answer.Done Answer.Refused) e) (K .bytes)
@@ -97,26 +98,35 @@ held-state b r L e = record {
 clash : {A : Type 0} (n : ℕ) → Tested.Refused n ≡ Tested.Passed → A
 clash n e = let z : _≡_ {A = ℕ} 0 1 = cc in let w : ⊥ = omega arith in absurd w
 
-pub short-as : (b : List ℕ) (t k s : ℕ) (state : State) → isShort (length b) t k s ≡ true → Lent-as b t k s (record { tested = Tested.Refused 1; state = state })
+pub short-as : (b : List ℕ) (t k s : ℕ) (state : State) → isShort (length b) t k s ≡ true →
+    Lent-as b t k s (record { tested = Tested.Refused 1; state = state })
 short-as b t k s state e = record {
   said = sym (ap (λ (v : Bool). tested (test v 1 ∷ test (not (good b)) 2 ∷ [])) e);
   found = λ f. clash 1 f;
 }
 
 pub loaded-as :
-    (b : List ℕ) (t k s : ℕ) (r : Loaded) → isShort (length b) t k s ≡ false → Loaded-as b r → (v : Tested) → v ≡ cond (r .good) Tested.Passed (Tested.Refused 2) →
+    (b : List ℕ) (t k s : ℕ) (r : Loaded) → isShort (length b) t k s ≡ false → Loaded-as b r → (v : Tested) →
+    v ≡ cond (r .good) Tested.Passed (Tested.Refused 2) →
     Lent-as b t k s (record { tested = v; state = r .state })
 loaded-as b t k s r e L v f = go (r .good) (L .verdict) f (λ g. held-state b r L g) (λ g. L .held g)
   where
     go :
-        (g : Bool) → g ≡ good b → v ≡ cond g Tested.Passed (Tested.Refused 2) → (g ≡ true → Held-state (r .state)) → (g ≡ true → heldOf (r .state) ≡ readHeld b) →
+        (g : Bool) → g ≡ good b → v ≡ cond g Tested.Passed (Tested.Refused 2) → (g ≡ true → Held-state (r .state)) →
+        (g ≡ true → heldOf (r .state) ≡ readHeld b) →
         Lent-as b t k s (record { tested = v; state = r .state })
     go true g f H D = record {
-      said = f ∙ sym (ap (λ (x : Bool). tested (test x 1 ∷ test (not (good b)) 2 ∷ [])) e ∙ ap (λ (x : Bool). tested (test false 1 ∷ test (not x) 2 ∷ [])) (sym g));
+      said =
+          f
+          ∙ sym (ap (λ (x : Bool). tested (test x 1 ∷ test (not (good b)) 2 ∷ [])) e
+          ∙ ap (λ (x : Bool). tested (test false 1 ∷ test (not x) 2 ∷ [])) (sym g));
       found = λ p. record { room = enough (length b) t k s e; state-held = H refl; held = D refl };
     }
     go false g f H D = record {
-      said = f ∙ sym (ap (λ (x : Bool). tested (test x 1 ∷ test (not (good b)) 2 ∷ [])) e ∙ ap (λ (x : Bool). tested (test false 1 ∷ test (not x) 2 ∷ [])) (sym g));
+      said =
+          f
+          ∙ sym (ap (λ (x : Bool). tested (test x 1 ∷ test (not (good b)) 2 ∷ [])) e
+          ∙ ap (λ (x : Bool). tested (test false 1 ∷ test (not x) 2 ∷ [])) (sym g));
       found = λ p. clash 2 (sym f ∙ p);
     }
 
@@ -140,7 +150,8 @@ body-room at k u x F = (omega (arith, F .least), omega (arith, length-drop at x,
 -- ---- a question beside the records
 
 -- a question that is decoded is in range, and it is the command
-pub asked-for : (h : Held) (q : Question) (c : Command) → asQuestion (h .settings) q ≡ Decoded.Command c → (T (isQuestion q)) × (asQuestion (h .settings) q ≡ Decoded.Command (Command.Ask q))
+pub asked-for : (h : Held) (q : Question) (c : Command) → asQuestion (h .settings) q ≡ Decoded.Command c →
+    (T (isQuestion q)) × (asQuestion (h .settings) q ≡ Decoded.Command (Command.Ask q))
 asked-for h q c = go (isQuestion q)
   where
     given : Bool → Decoded

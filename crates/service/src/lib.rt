@@ -47,6 +47,15 @@ fn refused(number: u8, used: usize) -> Reply
     }
 }
 
+fn done(used: usize) -> Reply
+    ensures { λ r. ⌜ (r .answer ≡ Answer.Done) × (r .used ≡ used) ⌝ }
+{
+    Reply {
+        answer: Answer::Done,
+        used,
+    }
+}
+
 // Whether one of the four lent lengths is too short.
 fn is_short(block: usize, labels: usize, links: usize, spans: usize) -> bool
     ensures { λ r. ⌜ r ≡ isShort block labels links spans ⌝ }
@@ -153,10 +162,7 @@ fn keep(block: &mut [u8], listed: Listed, used: usize) -> Reply
     match tested {
         Tested::Passed => {
             block::store(block, state);
-            Reply {
-                answer: Answer::Done,
-                used,
-            }
+            done(used)
         }
         Tested::Refused(number) => refused(number, used),
     }
@@ -181,10 +187,7 @@ fn work(
     match command {
         Command::Reset => {
             block::store(block, State::empty());
-            Reply {
-                answer: Answer::Done,
-                used,
-            }
+            done(used)
         }
         Command::Add(rule) => keep(block, state.with_rule(rule), used),
         Command::Put(mark) => keep(block, state.put(mark), used),
@@ -197,7 +200,7 @@ fn work(
 }
 
 // A record that has a frame: its body is decoded under the settings.
-fn obey(
+fn on_body(
     kind: u16,
     body: &[u8],
     state: State,
@@ -214,7 +217,7 @@ fn obey(
         (judged (heldOf state) (parsedBody (decodeBody (heldOf state .settings) kind (now (body .entry))) (now (body .entry)) used)) ⌝ }
 {
     let settings = state.settings;
-    match records::decode(settings, kind, body) {
+    match records::decode_body(settings, kind, body) {
         Decoded::Command(command) => work(command, body, state, block, labels, links, spans, used),
         Decoded::Refused(number) => refused(number, used),
     }
@@ -241,7 +244,7 @@ fn next(
             used: 0,
         },
         Framed::Refused(number, used) => refused(number, used),
-        Framed::Record(kind, used) => obey(
+        Framed::Record(kind, used) => on_body(
             kind,
             &input[at + 4..at + used],
             state,

@@ -2,7 +2,8 @@
 use mathlib.Core.Path.{_≡_, refl, sym, _∙_, subst}
 use mathlib.Core.Logic.{_⊎_, inl, inr, ⊎-elim}
 use mathlib.Core.Bool.{Bool, true, false, not, cond}
-use mathlib.Core.List.{List, [], _∷_, _++_, List·Memᴰ·head, List·Memᴰ·tail, List·Memᴰ·cases-cons, List·Memᴰ·not-nil, List·Memᴰ·append-cases, List·Memᴰ·eq-of-singleton}
+use mathlib.Core.List.{List, [], _∷_, _++_, List·Memᴰ·head, List·Memᴰ·tail, List·Memᴰ·cases-cons}
+use mathlib.Core.List.{List·Memᴰ·not-nil, List·Memᴰ·append-cases, List·Memᴰ·eq-of-singleton}
 use Prim.Native.Nat.{suc, _≤_}
 use native.Mathlib.Omega.{arith}
 use lib.Dec.{T, leb, leb→le, le→leb}
@@ -27,7 +28,9 @@ some-in f (x ∷ xs) t = go (or-one (f x) (some f xs) t) (λ u. some-in f xs u)
 pub in-some : {X : Type 0} (f : X → Bool) (xs : List X) (x : X) → x ∈ xs → T (f x) → T (some f xs)
 unfolding some
 in-some f [] x m t = absurd (List·Memᴰ·not-nil m)
-in-some f (y ∷ ys) x m t = ⊎-elim (λ e. or-left (f y) (some f ys) (subst (λ v. T (f v)) e t)) (λ n. or-right (f y) (some f ys) (in-some f ys x n t)) (List·Memᴰ·cases-cons m)
+in-some f (y ∷ ys) x m t =
+    ⊎-elim (λ e. or-left (f y) (some f ys) (subst (λ v. T (f v)) e t)) (λ n. or-right (f y) (some f ys) (in-some f ys x n t))
+    (List·Memᴰ·cases-cons m)
 
 pub every-in : {X : Type 0} (f : X → Bool) (xs : List X) → T (every f xs) → (x : X) → x ∈ xs → T (f x)
 unfolding every
@@ -81,7 +84,8 @@ module _ {X : Type 0} (alike : X → X → Bool) (alike-eq : (x y : X) → T (al
       fresh : T (not (some (alike y) ys)) × T (once alike ys) → T (some (alike y) (ys ++ (x ∷ []))) → (z : X) × (z ∈ (ys ++ (x ∷ []))) × T (alike y z) → ⊥
       fresh w s (z, m, a) = ⊎-elim
           (λ n. not-T (some (alike y) ys) (w .0) (in-some (alike y) ys z n a))
-          (λ n. let e = alike-eq y z a ∙ List·Memᴰ·eq-of-singleton n in not-T (some (alike x) (y ∷ ys)) u (or-left (alike x y) (some (alike x) ys) (subst (λ v. T (alike x v)) (sym e) (eq-alike x))))
+          (λ n. let e = alike-eq y z a ∙ List·Memᴰ·eq-of-singleton n in
+          not-T (some (alike x) (y ∷ ys)) u (or-left (alike x y) (some (alike x) ys) (subst (λ v. T (alike x v)) (sym e) (eq-alike x))))
           (List·Memᴰ·append-cases ys m)
 
   pub once-strike : (f : X → Bool) (xs : List X) → T (once alike xs) → T (once alike (strike f xs))
@@ -89,10 +93,12 @@ module _ {X : Type 0} (alike : X → X → Bool) (alike-eq : (x y : X) → T (al
   once-strike f [] t = tt
   once-strike f (y ∷ ys) t = go (f y) (and-both (not (some (alike y) ys)) (once alike ys) t) (λ u. once-strike f ys u)
     where
-      go : (b : Bool) → T (not (some (alike y) ys)) × T (once alike ys) → (T (once alike ys) → T (once alike (strike f ys))) → T (once alike (cond b ys (y ∷ strike f ys)))
+      go : (b : Bool) → T (not (some (alike y) ys)) × T (once alike ys) → (T (once alike ys) → T (once alike (strike f ys))) →
+          T (once alike (cond b ys (y ∷ strike f ys)))
       go true w k = w .1
       go false w k = both-and (not (some (alike y) (strike f ys))) (once alike (strike f ys))
-          (T-not (some (alike y) (strike f ys)) (λ s. let v = some-in (alike y) (strike f ys) s in not-T (some (alike y) ys) (w .0) (in-some (alike y) ys (v .0) (strike-in f ys (v .1)) (v .2))))
+          (T-not (some (alike y) (strike f ys)) (λ s. let v = some-in (alike y) (strike f ys) s in
+          not-T (some (alike y) ys) (w .0) (in-some (alike y) ys (v .0) (strike-in f ys (v .1)) (v .2))))
           (k (w .1))
 
 -- ---- the limits, one by one

@@ -72,7 +72,8 @@ pub ruleset ints = (arith, ≤→ℕ, ℕ→≤, <→ℕ, ℕ→<, ≡→ℕ, �
 subℕ-is : (a b : ℕ) → up (subℕ a b) + b ≡ dn (subℕ a b) + a
 subℕ-is a b = go (ltb a b) (λ t. ltb→lt a b t) (λ t. nltb→le a b t)
   where
-    go : (t : Bool) → (T t → a < b) → (T (not t) → b ≤ a) → up (cond t (negsuc (b - suc a)) (pos (a - b))) + b ≡ dn (cond t (negsuc (b - suc a)) (pos (a - b))) + a
+    go : (t : Bool) → (T t → a < b) → (T (not t) → b ≤ a) →
+        up (cond t (negsuc (b - suc a)) (pos (a - b))) + b ≡ dn (cond t (negsuc (b - suc a)) (pos (a - b))) + a
     go true h k = omega (arith, h tt)
     go false h k = omega (arith, k tt)
 
@@ -113,12 +114,6 @@ pred-is (negsuc n) = omega arith
 pub ≤-refl : (a : ℤ) → a ≤ℤ a
 ≤-refl a = omega ints
 
-pub ≤-trans : {a b c : ℤ} → a ≤ℤ b → b ≤ℤ c → a ≤ℤ c
-≤-trans h k = omega ints
-
-pub ≤-antisym : {a b : ℤ} → a ≤ℤ b → b ≤ℤ a → a ≡ b
-≤-antisym h k = omega ints
-
 -- the tests that compute, and what each says
 pub leZ-no : {a b : ℤ} → T (not (leZ a b)) → b <ℤ a
 leZ-no {a = pos a} {b = pos b} t = ltZ-yes (lt→ltb b a (nleb→lt a b t))
@@ -154,19 +149,15 @@ ltZ-T→ℕ a b t = <→ℕ {a = a} {b = b} (ltZ-yes t)
 
 pub ruleset tests = (leZ-true→ℕ, leZ-false→ℕ, ltZ-true→ℕ, ltZ-false→ℕ, leZ-T→ℕ, ltZ-T→ℕ)
 
--- `≢` is a function, which is no rule: list it applied, `omega (ints, ≢→ℕ f)`
-pub ≢→ℕ : {a b : ℤ} → a ≢ b → up a + dn b ≢ up b + dn a
-≢→ℕ {a} {b} f e = f (ℕ→≡ a b e)
-
 -- ---- the test a ≤ b, with what it says
 
-pub data Test (a b : ℤ) : Bool → Type 0 where
-  at-most : a ≤ℤ b → Test a b true
-  more-than : b <ℤ a → Test a b false
+pub data Compared (a b : ℤ) : Bool → Type 0 where
+  at-most : a ≤ℤ b → Compared a b true
+  more-than : b <ℤ a → Compared a b false
 
-pub test : (a b : ℤ) → Test a b (leZ a b)
-test a b = go (leZ a b) (λ t. leZ-yes t) (λ t. leZ-no t)
+pub compare-with : (a b : ℤ) → Compared a b (leZ a b)
+compare-with a b = go (leZ a b) (λ t. leZ-yes t) (λ t. leZ-no t)
   where
-    go : (t : Bool) → (T t → a ≤ℤ b) → (T (not t) → b <ℤ a) → Test a b t
+    go : (t : Bool) → (T t → a ≤ℤ b) → (T (not t) → b <ℤ a) → Compared a b t
     go true h k = at-most (h tt)
     go false h k = more-than (k tt)

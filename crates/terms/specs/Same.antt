@@ -64,7 +64,10 @@ thirdOf (Link o r s) = 0
 thirdOf (Via r A B) = B
 
 abbrev pub sameRule : Rule → Rule → Bool
-sameRule ρ σ = eqb (kindOf ρ) (kindOf σ) && (sameOperator (operatorIn ρ) (operatorIn σ) && (eqb (firstOf ρ) (firstOf σ) && (eqb (secondOf ρ) (secondOf σ) && eqb (thirdOf ρ) (thirdOf σ))))
+sameRule ρ σ =
+    eqb (kindOf ρ) (kindOf σ)
+    && (sameOperator (operatorIn ρ) (operatorIn σ)
+    && (eqb (firstOf ρ) (firstOf σ) && (eqb (secondOf ρ) (secondOf σ) && eqb (thirdOf ρ) (thirdOf σ))))
 
 -- ---- the tests say equal
 
@@ -138,10 +141,17 @@ pub record SameParts (ρ σ : Rule) : Type 0 where
   pub second : secondOf ρ ≡ secondOf σ
   pub third : thirdOf ρ ≡ thirdOf σ
 
-parts : (k : Bool) (ρ σ : Rule) → T (k && (sameOperator (operatorIn ρ) (operatorIn σ) && (eqb (firstOf ρ) (firstOf σ) && (eqb (secondOf ρ) (secondOf σ) && eqb (thirdOf ρ) (thirdOf σ))))) → SameParts ρ σ
+parts : (k : Bool) (ρ σ : Rule) →
+    T (k
+    && (sameOperator (operatorIn ρ) (operatorIn σ)
+    && (eqb (firstOf ρ) (firstOf σ) && (eqb (secondOf ρ) (secondOf σ) && eqb (thirdOf ρ) (thirdOf σ))))) → SameParts ρ σ
 parts k ρ σ t =
-    let a = and-both k (sameOperator (operatorIn ρ) (operatorIn σ) && (eqb (firstOf ρ) (firstOf σ) && (eqb (secondOf ρ) (secondOf σ) && eqb (thirdOf ρ) (thirdOf σ)))) t in
-    let b = and-both (sameOperator (operatorIn ρ) (operatorIn σ)) (eqb (firstOf ρ) (firstOf σ) && (eqb (secondOf ρ) (secondOf σ) && eqb (thirdOf ρ) (thirdOf σ))) (a .1) in
+    let a =
+    and-both k (sameOperator (operatorIn ρ) (operatorIn σ)
+    && (eqb (firstOf ρ) (firstOf σ) && (eqb (secondOf ρ) (secondOf σ) && eqb (thirdOf ρ) (thirdOf σ)))) t in
+    let b =
+    and-both (sameOperator (operatorIn ρ) (operatorIn σ))
+    (eqb (firstOf ρ) (firstOf σ) && (eqb (secondOf ρ) (secondOf σ) && eqb (thirdOf ρ) (thirdOf σ))) (a .1) in
     let c = and-both (eqb (firstOf ρ) (firstOf σ)) (eqb (secondOf ρ) (secondOf σ) && eqb (thirdOf ρ) (thirdOf σ)) (b .1) in
     let d = and-both (eqb (secondOf ρ) (secondOf σ)) (eqb (thirdOf ρ) (thirdOf σ)) (c .1) in
     record {

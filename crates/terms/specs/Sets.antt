@@ -151,7 +151,12 @@ module _ (M : Set) (none : (m : ℤ) → IsLeast M m → ⊥) (i : ℤ) (all : (
 pub without-greatest : (M : Set) → ((m : ℤ) → IsGreatest M m → ⊥) → (i : ℤ) → ((j : ℤ) → M j → j <ℤ i) → (j : ℤ) → M j → ⊥
 without-greatest M none i all j h =
     without-least (λ k. M (negℤ k))
-    (λ m l. none (negℤ m) (record { member = l .member; last = λ k n. let w = l .first (negℤ k) (subst M (sym (neg-neg k)) n) in omega (ints, neg-up m, neg-dn m, neg-up k, neg-dn k) }))
+    (λ m l.
+    none (negℤ m) (record {
+      member = l .member;
+      last =
+          λ k n. let w = l .first (negℤ k) (subst M (sym (neg-neg k)) n) in omega (ints, neg-up m, neg-dn m, neg-up k, neg-dn k);
+    }))
     (negℤ i)
     (λ k n. let w = all (negℤ k) n in omega (ints, neg-up i, neg-dn i, neg-up k, neg-dn k))
     (negℤ j)

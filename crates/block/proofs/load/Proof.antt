@@ -32,7 +32,10 @@ not-good-requires-2 : tie.Need-not-good-requires-2
 not-good-requires-2 c κs = search needs
 
 returns-2 : tie.Need-returns-2
-returns-2 c = let b = c .before .before .before .before .before .before .args .block .now in not-good b _ (c .not-good2 .ensures) (too-many-marks b (omega arith) (omega arith))
+returns-2 c =
+    let from-start = c .before .before .before .before .before .before in
+    let b = from-start .args .block .now in
+    not-good b _ (c .not-good2 .ensures) (too-many-marks b (omega arith) (omega arith))
 
 load-rules-requires : tie.Need-load-rules-requires
 load-rules-requires c κs = search needs
@@ -59,7 +62,9 @@ returns-3 c =
     let first = second .before in
     let start = first .before .before in
     let b = start .args .block .now in
-    let e = held-in b _ (first .u16-at .ensures) (second .u16-at2 .ensures) (rules .load-rules .ensures) (marks .load-marks .ensures) (set .settings-at .ensures) in
+    let e =
+    held-in b _ (first .u16-at .ensures) (second .u16-at2 .ensures) (rules .load-rules .ensures) (marks .load-marks .ensures)
+    (set .settings-at .ensures) in
     not-good b _ (c .not-good3 .ensures) (sym (ap limits e) ∙ sym (judged .within-limits .ensures) ∙ not-back _ true (c .before .if3 .taken))
 
 blank-requires : tie.Need-blank-requires

@@ -44,8 +44,12 @@ loop-less c = omega arith
 loop-again : tie.Need-loop-again Inv-loop μ-loop
 loop-again c =
     let l = c .before .before .loop in
-    let a = c .before .before .before .before .args in
-    (omega arith, simp length-set (l .inv .1), tab-more (placeFrom (a .b .now)) (l .out) (l .i) _ (omega arith) (l .inv .2) (ap (λ (ρ : Rule). record { rule = ρ }) (c .rule-at .ensures)))
+    let a = c .before .before .before .before .args in (
+      omega arith,
+      simp length-set (l .inv .1),
+      tab-more (placeFrom (a .b .now)) (l .out) (l .i) _ (omega arith) (l .inv .2)
+          (ap (λ (ρ : Rule). record { rule = ρ }) (c .rule-at .ensures)),
+    )
 
 returns : tie.Need-returns Inv-loop μ-loop
 returns c =

@@ -38,10 +38,13 @@ rule-of-requires : tie.Need-rule-of-requires
 rule-of-requires c κs = search needs
 
 returns : tie.Need-returns
-returns c = let a = c .before .before .before .before .before .before .before .args in
+returns c =
+    let u32-at = c .before .before .before .before .before in
+    let a = u32-at .before .before .args in
     let l = a .b .now in
     c .rule-of .ensures
-    ∙ ap (λ (n : ℕ). ruleOf (getD l (a .at) 0) (getD l (a .at + 1) 0) (getD l (a .at + 2) 0) (getD l (a .at + 3) 0) n) (c .before .before .before .before .before .u32-at .ensures)
+    ∙ ap (λ (n : ℕ). ruleOf (getD l (a .at) 0) (getD l (a .at + 1) 0) (getD l (a .at + 2) 0) (getD l (a .at + 3) 0) n)
+    (u32-at .u32-at .ensures)
 
 pub rule-at-spec : {M : Type 1} → statement M
 rule-at-spec =

@@ -11,7 +11,9 @@ use Rattle.keys.proofs.first.Statement.{statement}
 use Rattle.keys.proofs.first.Tie as tie
 
 abbrev Inv-loop : tie.InvT-loop
-Inv-loop keys from key i₀ i-end i = (from ≤ i) × (i ≤ length keys) × (i-end ≡ length keys) × (from + indexOf (eqb key) (drop from keys) ≡ i + indexOf (eqb key) (drop i keys))
+Inv-loop keys from key i₀ i-end i =
+    (from ≤ i) × (i ≤ length keys) × (i-end ≡ length keys)
+    × (from + indexOf (eqb key) (drop from keys) ≡ i + indexOf (eqb key) (drop i keys))
 
 abbrev μ-loop : tie.MeasureT-loop
 μ-loop keys from key i₀ i-end i = length keys - i

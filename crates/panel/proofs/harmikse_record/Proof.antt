@@ -23,7 +23,9 @@ same-length-4 : tie.Need-same-length-4
 same-length-4 c = search needs
 
 returns : tie.Need-returns
-returns c = packs _ _ (c .pack .ensures) (c .before .before .before .before .before .before .before .before .«record» .ensures)
+returns c =
+    let at-record = c .before .before .before .before .before .before .before .before in
+    packs _ _ (c .pack .ensures) (at-record .«record» .ensures)
 
 pub harmikse-record-spec : {M : Type 1} → statement M
 harmikse-record-spec =

@@ -29,8 +29,13 @@ same-length-3 c = search needs
 
 returns : tie.Need-returns
 returns c =
-    let start = c .before .before .before .before .before .before .before .before .before .before .before .before .before .before .before in
-    span-packs (lent (start .args .block .now) (start .args .labels .now) (start .args .links .now) (start .args .spans .now)) (start .args .item) (start .args .label) _ (c .pack .ensures) (c .before .before .before .before .before .before .spans-of .ensures ∙ ap₂ (spanCall (lent (start .args .block .now) (start .args .labels .now) (start .args .links .now) (start .args .spans .now))) (c .before .before .before .before .before .before .before .before .clamp .ensures) (c .before .before .before .before .before .before .before .clamp2 .ensures))
+    let spans-of = c .before .before .before .before .before .before in
+    let start = spans-of .before .before .before .before .before .before .before .before .before in
+    span-packs (lent (start .args .block .now) (start .args .labels .now) (start .args .links .now) (start .args .spans .now))
+    (start .args .item) (start .args .label) _ (c .pack .ensures)
+    (spans-of .spans-of .ensures
+    ∙ ap₂ (spanCall (lent (start .args .block .now) (start .args .labels .now) (start .args .links .now) (start .args .spans .now)))
+    (spans-of .before .before .clamp .ensures) (spans-of .before .clamp2 .ensures))
 
 pub harmikse-spans-spec : {M : Type 1} → statement M
 harmikse-spans-spec =

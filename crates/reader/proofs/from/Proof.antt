@@ -39,7 +39,8 @@ use Rattle.reader.proofs.from as from′
 use Rattle.reader.proofs.from.Statement as stated
 use Rattle.reader.proofs.from.Code as code
 
-module _ {M : Type 1} (𝓤 : URA M) (H : Heap 𝓤) (A : Atoms 𝓤) (W : Given 𝓤 H A) (mem : Memory → SProp 𝓤) (run : Routine → Fun 𝓤) (κ : Lft) (q : Share) (s : RefT (List ℕ)) (n : ℕ) (ok : n < 2 ^ 64) where
+module _ {M : Type 1} (𝓤 : URA M) (H : Heap 𝓤) (A : Atoms 𝓤) (W : Given 𝓤 H A) (mem : Memory → SProp 𝓤) (run : Routine → Fun 𝓤) (κ : Lft)
+    (q : Share) (s : RefT (List ℕ)) (n : ℕ) (ok : n < 2 ^ 64) where
   abbrev made : Reader
   made = record { src = s; at = n }
 
@@ -56,9 +57,11 @@ module _ {M : Type 1} (𝓤 : URA M) (H : Heap 𝓤) (A : Atoms 𝓤) (W : Given
   exits : ent 𝓤 Entry (Post (T′.lowered made))
   exits =
       qed W (token 𝓤 κ q ∷ ‵ (owns (rows κ) (s, (n, tt)) passed) ∷ []) ∵
-      suffices ! _ (ends-at 𝓤 H A from′.ended input-stays (from′.clauses 𝓤 H A mem run) W (((κ, tt), (q, tt), tt, (s, (n, tt)), passed), tt) (T′.lowered made) made (tt, (tt, tt)) (tt, (tt, tt))) $
+      suffices ! _ (ends-at 𝓤 H A from′.ended input-stays (from′.clauses 𝓤 H A mem run) W
+      (((κ, tt), (q, tt), tt, (s, (n, tt)), passed), tt) (T′.lowered made) made (tt, (tt, tt)) (tt, (tt, tt))) $
       says ! (refl, refl) $ frame ! $ fsplit ! $
-      use1 W (‵ (slice-own κ s) ⊛ ‵ (slice-own κ s)) (shr-slice-copy 𝓤 H A W (named 0) κ u8 .twice s (sliced s ∷ [])) $ split ! $ move ! (0 ∷ 2 ∷ []) $ fjoin ! $ frame ! $
+      use1 W (‵ (slice-own κ s) ⊛ ‵ (slice-own κ s)) (shr-slice-copy 𝓤 H A W (named 0) κ u8 .twice s (sliced s ∷ [])) $ split ! $
+      move ! (0 ∷ 2 ∷ []) $ fjoin ! $ frame ! $
       -- [what src owns]: what the fields own together, of it and of at's facts, is what the struct owns
       nothing ! $ owned ! usize (Is usize) (uint-makes 𝓤 H A W w64) n _ (refl, ok) $ fjoin ! $ move ! (1 ∷ 0 ∷ []) $ fjoin ! $
       by ! (own-shut 𝓤 H A W (declared (κ, tt)) (laws (κ, tt)) (s, (n, tt)))
@@ -68,11 +71,16 @@ module _ {M : Type 1} (𝓤 : URA M) (H : Heap 𝓤) (A : Atoms 𝓤) (W : Given
     walk p =
         let typed = shr-slice-lawful 𝓤 H A W (named 0) κ u8 .typed s (sliced s ∷ []) p .0 in
         qed W (raw Entry ∷ []) ∵ enter ! C Λ code.function (sliced s ∷ vint w64 n ∷ []) _ $
-        alloc1 ! (λ l₀. alloc1 ! (λ l₁. alloc1 ! (λ l₂. alloc0 ! $ params1 ! $ pass1 ! (init ! 2 refl typed) $ pass1 ! (init ! 0 refl (tt, record { fits = ok })) $ pass0 ! $
+        alloc1 ! (λ l₀. alloc1 ! (λ l₁. alloc1 ! (λ l₂. alloc0 ! $ params1 ! $ pass1 ! (init ! 2 refl typed) $
+        pass1 ! (init ! 0 refl (tt, record { fits = ok })) $ pass0 ! $
         -- [_2; …; _1; …; room for _0; …]
-        assigns ! (agg ! (and-then ! (load ! (from ! (stop !)) (look ! 2 refl)) (and-then ! (load ! (from ! (stop !)) (look ! 0 refl)) (no-more !)))) (from ! (stop !))
+        assigns
+        ! (agg
+        ! (and-then ! (load ! (from ! (stop !)) (look ! 2 refl)) (and-then ! (load ! (from ! (stop !)) (look ! 0 refl)) (no-more !))))
+        (from ! (stop !))
         (init ! 4 refl (tt, (typed .1, (record { fits = ok }, tt)))) $
-        returns ! (look ! 4 refl) $ forget ! 0 refl $ forget ! 2 refl $ forget ! 4 refl $ move ! (4 ∷ 5 ∷ []) $ free1 ! $ move ! (2 ∷ 3 ∷ []) $ free1 ! $ free1 ! $ free0 ! $ by ! exits)))
+        returns ! (look ! 4 refl) $ forget ! 0 refl $ forget ! 2 refl $ forget ! 4 refl $ move ! (4 ∷ 5 ∷ []) $ free1 ! $
+        move ! (2 ∷ 3 ∷ []) $ free1 ! $ free1 ! $ free0 ! $ by ! exits)))
 
 module _ {M : Type 1} (𝓤 : URA M) (H : Heap 𝓤) (A : Atoms 𝓤) (W : Given 𝓤 H A) (mem : Memory → SProp 𝓤) (run : Routine → Fun 𝓤) (𝓣 : Tables 𝓤 H) where
   abbrev Runs : Fun 𝓤

@@ -1,5 +1,7 @@
--- `reader::read` meets its contract: a walk of its MIR, by hand. The `Reader` that `from` returns is held in a local and passed to `next`. All that the proof knows of the two is that each meets its contract.
--- The machine value that `from` returns is stored and passed on as it is. In a local of a body MIR erases the lifetime of the struct's type, so the value is shown to have the type at `erased`: what the struct owns does not say the lifetime's name.
+-- `reader::read` meets its contract: a walk of its MIR, by hand. The `Reader` that `from` returns is held in a local and passed to `next`.
+-- All that the proof knows of the two is that each meets its contract.
+-- The machine value that `from` returns is stored and passed on as it is. In a local of a body MIR erases the lifetime of the struct's
+-- type, so the value is shown to have the type at `erased`: what the struct owns does not say the lifetime's name.
 -- Assumes nothing.
 use mathlib.Core.Path.{_≡_, refl, ap, _∙_}
 use Prim.Native.Nat.{ℕ, _<_, _^_}
@@ -64,7 +66,8 @@ module _ {M : Type 1} (𝓤 : URA M) (H : Heap 𝓤) (A : Atoms 𝓤) (mem : Mem
   abbrev Next : Contract 𝓤
   Next = tripleOf 𝓤 H A next.signature (next.spec 𝓤 H A mem run)
 
-module _ {M : Type 1} (𝓤 : URA M) (H : Heap 𝓤) (A : Atoms 𝓤) (W : Given 𝓤 H A) (mem : Memory → SProp 𝓤) (run : Routine → Fun 𝓤) (κ : Lft) (q : Share) (s : RefT (List ℕ)) (n : ℕ) (ok : n < 2 ^ 64) where
+module _ {M : Type 1} (𝓤 : URA M) (H : Heap 𝓤) (A : Atoms 𝓤) (W : Given 𝓤 H A) (mem : Memory → SProp 𝓤) (run : Routine → Fun 𝓤) (κ : Lft)
+    (q : Share) (s : RefT (List ℕ)) (n : ℕ) (ok : n < 2 ^ 64) where
   -- the machine values passed, to `read` and to `from`
   abbrev passed : Vals read.signature (κ, tt)
   passed = (sliced s ∷ [], (vint w64 n ∷ [], tt))
@@ -92,7 +95,8 @@ module _ {M : Type 1} (𝓤 : URA M) (H : Heap 𝓤) (A : Atoms 𝓤) (W : Given
       qed W (token 𝓤 κ q ∷ ‵ (owns (rows κ) (s, (n, tt)) passed) ∷ []) ∵
       move ! (1 ∷ []) $ fsplit ! $ use1 W (‵ (slice-own κ s) ⊛ ‵ (slice-own κ s)) (shr-slice-copy 𝓤 H A W (named 0) κ u8 .twice s (sliced s ∷ [])) $ split ! $
       move ! (0 ∷ 2 ∷ []) $ fjoin ! $ move ! (2 ∷ 0 ∷ []) $
-      use2 W (raw (From 𝓤 H A mem run .pre to-from)) (qed W (token 𝓤 κ q ∷ ‵ (owns (rows κ) (s, (n, tt)) passed) ∷ []) ∵ join ! $ frame ! $ done !) $ frame ! $ done !
+      use2 W (raw (From 𝓤 H A mem run .pre to-from))
+      (qed W (token 𝓤 κ q ∷ ‵ (owns (rows κ) (s, (n, tt)) passed) ∷ []) ∵ join ! $ frame ! $ done !) $ frame ! $ done !
 
   abbrev Made : Reader → Type 0
   Made r = (r .src ≡ s) × (r .at ≡ n)
@@ -105,7 +109,9 @@ module _ {M : Type 1} (𝓤 : URA M) (H : Heap 𝓤) (A : Atoms 𝓤) (W : Given
   to-next r u = (((κ, tt), (q, tt), tt, (r, tt), (u ∷ [], tt)), tt)
 
   goes-next : (r : Reader) (u : Val) → ent 𝓤 (⋆ 𝓤 H A (‵ (row (κ, tt) .own r (u ∷ [])) ∷ token 𝓤 κ q ∷ [])) (Next 𝓤 H A mem run .pre (to-next r u))
-  goes-next r u = qed W (‵ (row (κ, tt) .own r (u ∷ [])) ∷ token 𝓤 κ q ∷ []) ∵ nothing ! $ move ! (1 ∷ 0 ∷ []) $ fjoin ! $ move ! (1 ∷ 0 ∷ []) $ join ! $ frame ! $ done !
+  goes-next r u =
+      qed W (‵ (row (κ, tt) .own r (u ∷ [])) ∷ token 𝓤 κ q ∷ []) ∵ nothing ! $ move ! (1 ∷ 0 ∷ []) $ fjoin ! $ move ! (1 ∷ 0 ∷ []) $
+      join ! $ frame ! $ done !
 
   abbrev Found : Reader → Framed → Type 0
   Found r t = t ≡ found (r .src) (r .at)
@@ -120,19 +126,26 @@ module _ {M : Type 1} (𝓤 : URA M) (H : Heap 𝓤) (A : Atoms 𝓤) (W : Given
   exits : (t : Framed) (u : Val) → t ≡ found s n → ent 𝓤 (⋆ 𝓤 H A (‵ (S.the-row .own t (u ∷ [])) ∷ token 𝓤 κ q ∷ ‵ (slice-own κ s) ∷ [])) (Post u)
   exits t u e =
       qed W (‵ (S.the-row .own t (u ∷ [])) ∷ token 𝓤 κ q ∷ ‵ (slice-own κ s) ∷ []) ∵
-      suffices ! _ (ends-at 𝓤 H A read.ended input-stays (read.clauses 𝓤 H A mem run) W (((κ, tt), (q, tt), tt, (s, (n, tt)), passed), tt) u t (tt, (tt, tt)) (tt, (tt, tt))) $
-      says ! e $ move ! (1 ∷ []) $ frame ! $ nothing ! $ owned ! usize (Is usize) (uint-makes 𝓤 H A W w64) n _ (refl, ok) $ fjoin ! $ move ! (2 ∷ 0 ∷ []) $ fjoin ! $ frame ! $ done !
+      suffices ! _ (ends-at 𝓤 H A read.ended input-stays (read.clauses 𝓤 H A mem run) W
+      (((κ, tt), (q, tt), tt, (s, (n, tt)), passed), tt) u t (tt, (tt, tt)) (tt, (tt, tt))) $
+      says ! e $ move ! (1 ∷ []) $ frame ! $ nothing ! $ owned ! usize (Is usize) (uint-makes 𝓤 H A W w64) n _ (refl, ok) $ fjoin ! $
+      move ! (2 ∷ 0 ∷ []) $ fjoin ! $ frame ! $ done !
 
-  module _ (C : Calls 𝓤 H) (Λ : Loops 𝓤 H) (fm : FmC 𝓤 H (W .laws) C) (known-from : Triple 𝓤 (C #reader·from) (From 𝓤 H A mem run)) (known-next : Triple 𝓤 (C #reader·next) (Next 𝓤 H A mem run)) where
+  module _ (C : Calls 𝓤 H) (Λ : Loops 𝓤 H) (fm : FmC 𝓤 H (W .laws) C) (known-from : Triple 𝓤 (C #reader·from) (From 𝓤 H A mem run))
+      (known-next : Triple 𝓤 (C #reader·next) (Next 𝓤 H A mem run)) where
     walk : Is (ShrSlice (named 0) κ u8) s (sliced s ∷ []) → ent 𝓤 Entry (WpFn 𝓤 H C Λ code.function (sliced s ∷ vint w64 n ∷ []) Post)
     walk p =
         qed W (raw Entry ∷ []) ∵ enter ! C Λ code.function (sliced s ∷ vint w64 n ∷ []) _ $
         alloc1 ! (λ l₀. alloc1 ! (λ l₁. alloc1 ! (λ l₂. alloc1 ! (λ l₃. alloc0 ! $ params1 ! $
-        pass1 ! (init ! 4 refl (shr-slice-lawful 𝓤 H A W (named 0) κ u8 .typed s (sliced s ∷ []) p .0)) $ pass1 ! (init ! 2 refl (tt, record { fits = ok })) $ pass0 ! $
+        pass1 ! (init ! 4 refl (shr-slice-lawful 𝓤 H A W (named 0) κ u8 .typed s (sliced s ∷ []) p .0)) $
+        pass1 ! (init ! 2 refl (tt, record { fits = ok })) $ pass0 ! $
         -- [room for _3; …; _2; …; _1; …; room for _0; …; what is had at entry]
         move ! (8 ∷ []) $ use1 W (raw (From 𝓤 H A mem run .pre to-from) ⊛ ‵ (slice-own κ s)) goes-from $ split ! $
-        calls-at ! fm (From 𝓤 H A mem run) known-from to-from (and-then ! (load ! (from ! (stop !)) (look ! 6 refl)) (and-then ! (load ! (from ! (stop !)) (look ! 4 refl)) (no-more !))) (λ u.
-        use1 W (later (some (λ (r : Reader). (token 𝓤 κ q ⊛ ‵ (row (κ, tt) .own r (u ∷ []))) ⊛ raw (ensured 𝓤 H A from′.ended (from′.clauses 𝓤 H A mem run) (κ, tt) (s, (n, tt)) tt r))))
+        calls-at ! fm (From 𝓤 H A mem run) known-from to-from
+        (and-then ! (load ! (from ! (stop !)) (look ! 6 refl)) (and-then ! (load ! (from ! (stop !)) (look ! 4 refl)) (no-more !))) (λ
+        u.
+        use1 W (later (some (λ (r : Reader). (token 𝓤 κ q ⊛ ‵ (row (κ, tt) .own r (u ∷ [])))
+        ⊛ raw (ensured 𝓤 H A from′.ended (from′.clauses 𝓤 H A mem run) (κ, tt) (s, (n, tt)) tt r))))
         (id⊢ 𝓤 _) $ await ! tt $ pick ! (λ r.
         split ! $ move ! (1 ∷ []) $ use1 W (raw (fact 𝓤 (Made r))) (from-said r) $ heard ! (Made r) (λ e. split ! $ move ! (1 ∷ []) $
         -- [what the struct owns; the token; what s owns; room for _3; …; _2; …; _1; …; room for _0; …]
@@ -140,7 +153,8 @@ module _ {M : Type 1} (𝓤 : URA M) (H : Heap 𝓤) (A : Atoms 𝓤) (W : Given
         land ! (from ! (stop !)) (init ! 3 refl (LL.lawful (T.the-type αᵉ) (T′.the-laws αᵉ) 𝓤 H A W .typed r _ is .0)) $
         use2 W (raw (Next 𝓤 H A mem run .pre (to-next r u))) (goes-next r u) $
         calls-at ! fm (Next 𝓤 H A mem run) known-next (to-next r u) (and-then ! (load ! (from ! (stop !)) (look ! 2 refl)) (no-more !)) (λ u′.
-        use1 W (later (some (λ (t : Framed). (token 𝓤 κ q ⊛ ‵ (S.the-row .own t (u′ ∷ []))) ⊛ raw (ensured 𝓤 H A next.ended (next.clauses 𝓤 H A mem run) (κ, tt) (r, tt) tt t))))
+        use1 W (later (some (λ (t : Framed). (token 𝓤 κ q ⊛ ‵ (S.the-row .own t (u′ ∷ [])))
+        ⊛ raw (ensured 𝓤 H A next.ended (next.clauses 𝓤 H A mem run) (κ, tt) (r, tt) tt t))))
         (id⊢ 𝓤 _) $ await ! tt $ pick ! (λ t.
         split ! $ move ! (1 ∷ []) $ use1 W (raw (fact 𝓤 (Found r t))) (next-said r t) $ heard ! (Found r t) (λ e′. split ! $ move ! (1 ∷ []) $
         -- [the result; the token; what s owns; _3; …; _2; …; _1; …; room for _0; …]
@@ -157,7 +171,10 @@ module _ {M : Type 1} (𝓤 : URA M) (H : Heap 𝓤) (A : Atoms 𝓤) (W : Given
 
   walks : Walks 𝓤 H A read.ended input-stays Runs (read.clauses 𝓤 H A mem run)
   walks = walked 𝓤 H A read.ended input-stays (read.clauses 𝓤 H A mem run) Runs input-spells input-tells
-      (λ κs qs bounds a g are. via 𝓤 _ (fst∗ 𝓤 _ (emp 𝓤)) (walk 𝓤 H A W mem run (κs .0) (qs .0) (a .0) (a .1 .0) (are .1 .0 .1) (𝓣 .C) (𝓣 .Λ) (fmOf 𝓤 H (W .laws) 𝓣) known-from known-next (are .0)))
+      (λ κs qs bounds a g are.
+      via 𝓤 _ (fst∗ 𝓤 _ (emp 𝓤))
+      (walk 𝓤 H A W mem run (κs .0) (qs .0) (a .0) (a .1 .0) (are .1 .0 .1) (𝓣 .C) (𝓣 .Λ) (fmOf 𝓤 H (W .laws) 𝓣) known-from known-next
+      (are .0)))
 
   meets : Meets 𝓤 H A read.signature Runs (read.spec 𝓤 H A mem run)
   meets = walk-meets 𝓤 H A read.ended input-stays W (input-goes 𝓤 H A W) (read.clauses 𝓤 H A mem run) Runs (WpFn-mono 𝓤 H (W .laws) 𝓣 code.function) walks

@@ -28,10 +28,13 @@ ask-requires c κs = search needs
 
 returns : tie.Need-returns
 returns c =
-    let b = c .before .before .before .before .before .before .args .body .now in
-    let σ = c .before .before .before .before .before .before .args .settings in
+    let start = c .before .before .before .before .before .before in
+    let b = start .args .body .now in
+    let σ = start .args .settings in
     let read = c .before .i64-at in
-    c .ask .ensures ∙ ap (λ (z : ℤ). asQuestion σ (Holds (Linked (getD b 0 0) (getD b 1 0) (getD b 2 0)) z)) (toZ-ofZ w64 (read .result) (record { sfits = read .ok }) ∙ read .ensures)
+    c .ask .ensures
+    ∙ ap (λ (z : ℤ). asQuestion σ (Holds (Linked (getD b 0 0) (getD b 1 0) (getD b 2 0)) z))
+    (toZ-ofZ w64 (read .result) (record { sfits = read .ok }) ∙ read .ensures)
 
 pub ask-link-spec : {M : Type 1} → statement M
 ask-link-spec =

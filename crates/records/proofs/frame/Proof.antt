@@ -67,9 +67,16 @@ framed-by-requires c κs = search needs
 
 returns-5 : tie.Need-returns-5
 returns-5 c =
-    let field = c .before .before .before .before .before .before .u16-at in
-    let s = c .before .before .before .before .before .before .before .before .before .before .args .input .now in
-    simp (c .framed-by .ensures, c .before .tested .ensures, c .before .before .lengths-of .ensures, c .before .before .before .u16-at2 .ensures, field .ensures)
+    let u16-at = c .before .before .before .before .before .before in
+    let field = u16-at .u16-at in
+    let s = u16-at .before .before .before .before .args .input .now in
+    simp (
+      c .framed-by .ensures,
+      c .before .tested .ensures,
+      c .before .before .lengths-of .ensures,
+      c .before .before .before .u16-at2 .ensures,
+      field .ensures,
+    )
     (sym (frame-kind s (omega arith) (omega (arith, field .ensures)) (omega (arith, field .ensures))))
 
 pub frame-spec : {M : Type 1} → statement M

@@ -5,7 +5,7 @@ use lib.ListN.{getD}
 use mir.Syntax.{w32}
 use mir.ValLaws.{toZ-ofZ}
 use Rattle.terms.specs.declared.Atom.the-variants.{Has}
-use Rattle.records.specs.Proper.{markOf}
+use Rattle.records.specs.Proper.{markWith}
 use borrow.Author.Needs.{needs}
 use Rattle.records.proofs.label_mark.Statement.{statement}
 use Rattle.records.proofs.label_mark.Tie as tie
@@ -22,7 +22,7 @@ i32-at-requires c κs = search needs
 returns : tie.Need-returns
 returns c =
     let b = c .before .before .before .before .args .body .now in
-    ap (λ (z : ℤ). markOf (Has (getD b 0 0) (getD b 1 0)) z) (toZ-ofZ w32 (c .i32-at .result) (record { sfits = c .i32-at .ok }) ∙ c .i32-at .ensures)
+    ap (λ (z : ℤ). markWith (Has (getD b 0 0) (getD b 1 0)) z) (toZ-ofZ w32 (c .i32-at .result) (record { sfits = c .i32-at .ok }) ∙ c .i32-at .ensures)
 
 pub label-mark-spec : {M : Type 1} → statement M
 label-mark-spec =

@@ -35,8 +35,15 @@ add-requires c κs = search needs
 
 returns : tie.Need-returns
 returns c =
-    let b = c .before .before .before .before .before .before .before .before .before .args .body .now in
-    simp (c .add .ensures, c .before .tested .ensures, c .before .before .before .before .or-identity .ensures, c .before .before .before .before .before .new .ensures, c .before .before .before .before .before .before .u32-at .ensures)
+    let new = c .before .before .before .before .before in
+    let b = new .before .before .before .before .args .body .now in
+    simp (
+      c .add .ensures,
+      c .before .tested .ensures,
+      c .before .before .before .before .or-identity .ensures,
+      new .new .ensures,
+      new .before .u32-at .ensures,
+    )
     (ap (λ (t : Tested). decodedAs t (Command.Add (labelRule b))) (names-operator (isNamed (labelRule b)) (operatorAt b)))
 
 pub label-rule-spec : {M : Type 1} → statement M

@@ -5,7 +5,7 @@ use lib.ListN.{getD}
 use mir.Syntax.{w32}
 use mir.ValLaws.{toZ-ofZ}
 use Rattle.terms.specs.declared.Atom.the-variants.{Linked}
-use Rattle.records.specs.Proper.{markOf}
+use Rattle.records.specs.Proper.{markWith}
 use borrow.Author.Needs.{needs}
 use Rattle.records.proofs.link_mark.Statement.{statement}
 use Rattle.records.proofs.link_mark.Tie as tie
@@ -24,8 +24,10 @@ i32-at-requires c κs = search needs
 
 returns : tie.Need-returns
 returns c =
-    let b = c .before .before .before .before .before .args .body .now in
-    ap (λ (z : ℤ). markOf (Linked (getD b 0 0) (getD b 1 0) (getD b 2 0)) z) (toZ-ofZ w32 (c .i32-at .result) (record { sfits = c .i32-at .ok }) ∙ c .i32-at .ensures)
+    let start = c .before .before .before .before .before in
+    let b = start .args .body .now in
+    ap (λ (z : ℤ). markWith (Linked (getD b 0 0) (getD b 1 0) (getD b 2 0)) z)
+    (toZ-ofZ w32 (c .i32-at .result) (record { sfits = c .i32-at .ok }) ∙ c .i32-at .ensures)
 
 pub link-mark-spec : {M : Type 1} → statement M
 link-mark-spec =

@@ -30,7 +30,9 @@ returns c =
     let a = c .before .before .before .before .args in
     let k = c .before .before .before .depth-keys .ensures in
     let v = c .before .before .depth-key .ensures in
-    c .is-behind .ensures ∙ (rw (k .are, v .is) (some-keys depthKey DepthFits (λ m n. sameDepth (m .depth) (n .depth)) depth-exact (a .mark) _ (v .fits) (k .fit)))
+    c .is-behind .ensures
+    ∙ (rw (k .are, v .is)
+    (some-keys depthKey DepthFits (λ m n. sameDepth (m .depth) (n .depth)) depth-exact (a .mark) _ (v .fits) (k .fit)))
 
 pub has-depth-spec : {M : Type 1} → statement M
 has-depth-spec =

@@ -1,7 +1,7 @@
 -- The sum is the definition, and each part of it fits.
 use borrow.Author.Needs.{needs}
 use mathlib.Core.Path.{refl}
-use Rattle.scans.specs.Keys.{packed}
+use Rattle.scans.specs.Keys.{packedFields}
 use Rattle.scans.proofs.pack.Statement.{statement}
 use Rattle.scans.proofs.pack.Tie as tie
 
@@ -30,7 +30,7 @@ add-result-4 : tie.Need-add-result-4
 add-result-4 c = search needs
 
 returns : tie.Need-returns
-unfolding packed
+unfolding packedFields
 returns c = refl
 
 pub pack-spec : {M : Type 1} → statement M

@@ -59,11 +59,13 @@ same-length-5 c = search needs
 
 returns-2 : tie.Need-returns-2
 returns-2 c =
-    let clash = c .before .before .before .before .before .before .before .before in
+    let at-enum-told = c .before .before .before .before .before .before in
+    let clash = at-enum-told .before .before in
     let derived = clash .before .before .before .before .before .before in
     let start = derived .before .before .before .before .before .before in
     plain (start .args .state) (start .pre .held-state) _ _ _ _ (derived .derive .ensures .tables) _ (clash .clash-in .ensures)
-    (start .args .question) (start .pre .named) _ (c .before .before .before .before .before .before .enum-told .given .1) _ _ (derived .derive .ensures .cuts) _ _ (c .before .read-off .ensures)
+    (start .args .question) (start .pre .named) _ (at-enum-told .enum-told .given .1) _ _ (derived .derive .ensures .cuts) _ _
+    (c .before .read-off .ensures)
 
 pub answer-spec : {M : Type 1} → statement M
 answer-spec =

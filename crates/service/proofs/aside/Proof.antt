@@ -18,14 +18,17 @@ enum-told c = search needs
 
 answer-requires : tie.Need-answer-requires
 answer-requires c κs =
-    let start = c .before .before .before .before .before .before .before .before .before .before in
+    let ask = c .before .before .before .before .before in
+    let start = ask .before .before .before .before .before in
     let room = start .pre .1 in
     record {
       held-state = start .pre .0;
       labels-long = room .labels;
       links-long = room .links;
       spans-long = room .spans;
-      named = asked-for (heldOf (start .args .state)) (start .args .question) _ (sym (c .before .before .before .before .before .ask .ensures) ∙ c .before .before .before .enum-told .given .1) .0;
+      named =
+          asked-for (heldOf (start .args .state)) (start .args .question) _
+          (sym (ask .ask .ensures) ∙ c .before .before .before .enum-told .given .1) .0;
     }
 
 enum-known-number : tie.Need-enum-known-number
@@ -45,11 +48,16 @@ same-length-3 c = search needs
 
 returns : tie.Need-returns
 returns c =
-    let start = c .before .before .before .before .before .before .before .before .before .before .before .before .before .before .before .before in
+    let answer = c .before .before .before .before .before in
+    let ask = answer .before .before .before .before .before .before in
+    let start = ask .before .before .before .before .before in
     let h = heldOf (start .args .state) in
     let m = lent (start .args .block .now) (start .args .labels .now) (start .args .links .now) (start .args .spans .now) in
-    let known = asked-for (heldOf (start .args .state)) (start .args .question) _ (sym (c .before .before .before .before .before .before .before .before .before .before .before .ask .ensures) ∙ c .before .before .before .before .before .before .before .before .before .enum-told .given .1) in
-    questioned (start .args .block .now) (start .args .labels .now) (start .args .links .now) (start .args .spans .now) h (start .args .question) 0 _ _ _ _ (c .before .before .before .before .before .answer .ensures)
+    let known =
+    asked-for (heldOf (start .args .state)) (start .args .question) _
+    (sym (ask .ask .ensures) ∙ answer .before .before .before .before .enum-told .given .1) in
+    questioned (start .args .block .now) (start .args .labels .now) (start .args .links .now) (start .args .spans .now) h
+    (start .args .question) 0 _ _ _ _ (answer .answer .ensures)
     ∙ ap (λ (d : Decoded). effect h m (judged h (parsedBody d [] 0))) (sym (known .1))
 
 returns-2 : tie.Need-returns-2
@@ -59,7 +67,8 @@ returns-2 c =
     let m = lent (start .args .block .now) (start .args .labels .now) (start .args .links .now) (start .args .spans .now) in
     let said = c .refused .ensures in
     parts (said .0) (said .1) refl refl refl refl
-    ∙ ap (λ (d : Decoded). effect h m (judged h (parsedBody d [] 0))) (sym (sym (c .before .before .before .before .ask .ensures) ∙ c .before .before .number .given .1))
+    ∙ ap (λ (d : Decoded). effect h m (judged h (parsedBody d [] 0)))
+    (sym (sym (c .before .before .before .before .ask .ensures) ∙ c .before .before .number .given .1))
 
 pub aside-spec : {M : Type 1} → statement M
 aside-spec =

@@ -19,10 +19,13 @@ refused-requires c κs = search needs
 same-length : tie.Need-same-length
 same-length c = search needs
 
+done-requires : tie.Need-done-requires
+done-requires c κs = search needs
+
 returns : tie.Need-returns
 returns c =
-    let e = c .before .before .before .before .enum-told .given .1 in
-    record { said = rw e; block = rw e (c .before .before .store .ensures); bytes = refl }
+    let e = c .before .before .before .before .before .enum-told .given .1 in
+    record { said = rw e (c .done .ensures .0); block = rw e (c .before .before .before .store .ensures); bytes = c .done .ensures .1 }
 
 returns-2 : tie.Need-returns-2
 returns-2 c =
@@ -35,6 +38,7 @@ keep-spec =
     (tie.spec
     enum-told
     store-requires
+    done-requires
     enum-known-tested
     refused-requires
     same-length

@@ -16,12 +16,14 @@ empty-requires c κs = search needs
 returns : tie.Need-returns
 returns c =
     let start = c .before .before .before .before in
-    short-as (start .args .block .now) (start .args .labels) (start .args .links) (start .args .spans) _ (sym (c .before .before .is-short .ensures) ∙ c .before .if1 .taken)
+    short-as (start .args .block .now) (start .args .labels) (start .args .links) (start .args .spans) _
+    (sym (c .before .before .is-short .ensures) ∙ c .before .if1 .taken)
 
 load-requires : tie.Need-load-requires
 load-requires c κs =
     let start = c .before .before .before in
-    enough (length (start .args .block .now)) (start .args .labels) (start .args .links) (start .args .spans) (sym (c .before .is-short .ensures) ∙ c .if1 .left) .block
+    enough (length (start .args .block .now)) (start .args .labels) (start .args .links) (start .args .spans)
+    (sym (c .before .is-short .ensures) ∙ c .if1 .left) .block
 
 unless-requires : tie.Need-unless-requires
 unless-requires c κs = search needs
@@ -30,7 +32,8 @@ returns-2 : tie.Need-returns-2
 returns-2 c =
     let loaded = c .before .before in
     let start = loaded .before .before .before .before in
-    loaded-as (start .args .block .now) (start .args .labels) (start .args .links) (start .args .spans) (loaded .load .result) (sym (loaded .before .before .is-short .ensures) ∙ loaded .before .if1 .left)
+    loaded-as (start .args .block .now) (start .args .labels) (start .args .links) (start .args .spans) (loaded .load .result)
+    (sym (loaded .before .before .is-short .ensures) ∙ loaded .before .if1 .left)
     (loaded .load .ensures) _ (c .unless .ensures)
 
 pub lent-state-spec : {M : Type 1} → statement M

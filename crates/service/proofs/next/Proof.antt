@@ -30,8 +30,8 @@ refused-requires c κs = search needs
 enum-known-kind : tie.Need-enum-known-kind
 enum-known-kind c = search needs
 
-add-obey : tie.Need-add-obey
-add-obey c =
+add-on-body : tie.Need-add-on-body
+add-on-body c =
     let start = c .before .before .before .before .before .before .before .before in
     let x = start .args .input .now in
     let known = c .before .kind .given in
@@ -39,8 +39,8 @@ add-obey c =
     let room = body-room (start .args .at) (known .0 .0) (known .0 .1 .0) x F in
     omega (arith, room .0, room .1)
 
-add-obey-2 : tie.Need-add-obey-2
-add-obey-2 c =
+add-on-body-2 : tie.Need-add-on-body-2
+add-on-body-2 c =
     let start = c .before .before .before .before .before .before .before .before in
     let x = start .args .input .now in
     let known = c .before .kind .given in
@@ -48,8 +48,8 @@ add-obey-2 c =
     let room = body-room (start .args .at) (known .0 .0) (known .0 .1 .0) x F in
     omega (arith, room .0, room .1)
 
-sub-obey : tie.Need-sub-obey
-sub-obey c =
+sub-on-body : tie.Need-sub-on-body
+sub-on-body c =
     let start = c .before .before .before .before .before .before .before .before in
     let x = start .args .input .now in
     let known = c .before .kind .given in
@@ -57,8 +57,8 @@ sub-obey c =
     let room = body-room (start .args .at) (known .0 .0) (known .0 .1 .0) x F in
     omega (arith, room .0, room .1)
 
-part-obey-start : tie.Need-part-obey-start
-part-obey-start c =
+part-on-body-start : tie.Need-part-on-body-start
+part-on-body-start c =
     let start = c .before .before .before .before .before .before .before .before in
     let x = start .args .input .now in
     let known = c .before .kind .given in
@@ -66,8 +66,8 @@ part-obey-start c =
     let room = body-room (start .args .at) (known .0 .0) (known .0 .1 .0) x F in
     omega (arith, room .0, room .1)
 
-part-obey-end : tie.Need-part-obey-end
-part-obey-end c =
+part-on-body-end : tie.Need-part-on-body-end
+part-on-body-end c =
     let start = c .before .before .before .before .before .before .before .before in
     let x = start .args .input .now in
     let known = c .before .kind .given in
@@ -75,12 +75,13 @@ part-obey-end c =
     let room = body-room (start .args .at) (known .0 .0) (known .0 .1 .0) x F in
     omega (arith, room .0, room .1)
 
-obey-requires : tie.Need-obey-requires
-obey-requires c κs =
-    let start = c .before .before .before .before .before .before .before .before .before .before .before .before .before in
+on-body-requires : tie.Need-on-body-requires
+on-body-requires c κs =
+    let kind = c .before .before .before .before .before .before in
+    let start = kind .before .before .before .before .before .before .before in
     let x = start .args .input .now in
-    let known = c .before .before .before .before .before .before .kind .given in
-    let F = framed-in (drop (start .args .at) x) (known .0 .0) (known .0 .1 .0) (sym (c .before .before .before .before .before .before .before .before .read .ensures) ∙ known .1) in
+    let known = kind .kind .given in
+    let F = framed-in (drop (start .args .at) x) (known .0 .0) (known .0 .1 .0) (sym (kind .before .before .read .ensures) ∙ known .1) in
     let room = body-room (start .args .at) (known .0 .0) (known .0 .1 .0) x F in
     let body = body-at (start .args .at) (known .0 .0) (known .0 .1 .0) x F in
     let allowed = body-allowed (known .0 .0) (known .0 .1 .0) (drop (start .args .at) x) F in
@@ -103,7 +104,9 @@ returns-2 c =
     let m = lent (start .args .block .now) (start .args .labels .now) (start .args .links .now) (start .args .spans .now) in
     let s = drop (start .args .at) (start .args .input .now) in
     let said = c .refused .ensures in
-    parts (said .0) (said .1) refl refl refl refl ∙ ap (λ (f : Framed). effect h m (judged h (parsedFrame (h .settings) s f))) (sym (sym (c .before .before .before .before .read .ensures) ∙ c .before .before .number .given .1))
+    parts (said .0) (said .1) refl refl refl refl
+    ∙ ap (λ (f : Framed). effect h m (judged h (parsedFrame (h .settings) s f)))
+    (sym (sym (c .before .before .before .before .read .ensures) ∙ c .before .before .number .given .1))
 
 same-length : tie.Need-same-length
 same-length c = search needs
@@ -120,18 +123,21 @@ same-length-4 c = search needs
 returns-3 : tie.Need-returns-3
 unfolding parse
 returns-3 c =
-    let start = c .before .before .before .before .before .before .before .before .before .before .before .before .before .before .before .before .before .before .before .before .before in
+    let obey = c .before .before .before .before .before .before .before in
+    let kind = obey .before .before .before .before .before .before .before in
+    let start = kind .before .before .before .before .before .before .before in
     let x = start .args .input .now in
-    let known = c .before .before .before .before .before .before .before .before .before .before .before .before .before .before .kind .given in
-    let F = framed-in (drop (start .args .at) x) (known .0 .0) (known .0 .1 .0) (sym (c .before .before .before .before .before .before .before .before .before .before .before .before .before .before .before .before .read .ensures) ∙ known .1) in
+    let known = kind .kind .given in
+    let F = framed-in (drop (start .args .at) x) (known .0 .0) (known .0 .1 .0) (sym (kind .before .before .read .ensures) ∙ known .1) in
     let room = body-room (start .args .at) (known .0 .0) (known .0 .1 .0) x F in
     let h = heldOf (start .args .state) in
     let m = lent (start .args .block .now) (start .args .labels .now) (start .args .links .now) (start .args .spans .now) in
     let s = drop (start .args .at) (start .args .input .now) in
     let body = body-at (start .args .at) (known .0 .0) (known .0 .1 .0) x F in
-    c .before .before .before .before .before .before .before .obey .ensures
+    obey .on-body .ensures
     ∙ ap (λ (v : List ℕ). effect h m (judged h (parsedBody (decodeBody (h .settings) (known .0 .0) v) v (known .0 .1 .0)))) body
-    ∙ ap (λ (f : Framed). effect h m (judged h (parsedFrame (h .settings) s f))) (sym (sym (c .before .before .before .before .before .before .before .before .before .before .before .before .before .before .before .before .read .ensures) ∙ known .1))
+    ∙ ap (λ (f : Framed). effect h m (judged h (parsedFrame (h .settings) s f)))
+    (sym (sym (kind .before .before .read .ensures) ∙ known .1))
 
 pub next-spec : {M : Type 1} → statement M
 next-spec =
@@ -142,12 +148,12 @@ next-spec =
     enum-known-number
     refused-requires
     enum-known-kind
-    add-obey
-    add-obey-2
-    sub-obey
-    part-obey-start
-    part-obey-end
-    obey-requires
+    add-on-body
+    add-on-body-2
+    sub-on-body
+    part-on-body-start
+    part-on-body-end
+    on-body-requires
     returns
     returns-2
     same-length

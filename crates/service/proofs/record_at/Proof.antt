@@ -18,7 +18,8 @@ enum-told c = search needs
 
 next-requires : tie.Need-next-requires
 next-requires c κs =
-    let found = c .before .before .before .before .before .before .before .lent-state .ensures .found (c .before .before .before .before .enum-told .given .1) in
+    let lent-state = c .before .before .before .before .before .before .before in
+    let found = lent-state .lent-state .ensures .found (c .before .before .before .before .enum-told .given .1) in
     (found .state-held, found .room)
 
 enum-known-tested : tie.Need-enum-known-tested
@@ -42,16 +43,20 @@ same-length-4 c = search needs
 returns : tie.Need-returns
 unfolding call
 returns c =
-    let passed = c .before .before .before .before .before .before .before .before .before .before .before .before .enum-told .given .1 in
-    let judged-lent = c .before .before .before .before .before .before .before .before .before .before .before .before .before .before .before .lent-state in
-    let start = c .before .before .before .before .before .before .before .before .before .before .before .before .before .before .before .before .before .before .before .before .before in
+    let next = c .before .before .before .before .before .before .before in
+    let at-enum-told = next .before .before .before .before .before in
+    let start = at-enum-told .before .before .before .before .before .before .before .before .before in
+    let passed = at-enum-told .enum-told .given .1 in
+    let judged-lent = at-enum-told .before .before .before .lent-state in
     let found = judged-lent .ensures .found passed in
     let m = lent (start .args .block .now) (start .args .labels .now) (start .args .links .now) (start .args .spans .now) in
     let s = drop (start .args .at) (start .args .input .now) in
-    c .before .before .before .before .before .before .before .next .ensures
+    next .next .ensures
     ∙ ap (λ (h : Held). effect h m (judged h (parse (h .settings) s))) (found .held)
-    ∙ sym (lent-passed (start .args .block .now) (start .args .labels .now) (start .args .links .now) (start .args .spans .now) (judged-lent .result) (judged-lent .ensures)
-    (let h = readHeld (start .args .block .now) in judged h (parse (h .settings) (drop (start .args .at) (start .args .input .now)))) passed)
+    ∙ sym (lent-passed (start .args .block .now) (start .args .labels .now) (start .args .links .now) (start .args .spans .now)
+    (judged-lent .result) (judged-lent .ensures)
+    (let h = readHeld (start .args .block .now) in judged h (parse (h .settings) (drop (start .args .at) (start .args .input .now))))
+    passed)
 
 same-length-5 : tie.Need-same-length-5
 same-length-5 c = search needs
@@ -59,12 +64,15 @@ same-length-5 c = search needs
 returns-2 : tie.Need-returns-2
 unfolding call
 returns-2 c =
-    let judged-lent = c .before .before .before .before .before .lent-state in
-    let start = c .before .before .before .before .before .before .before .before .before .before .before in
+    let lent-state = c .before .before .before .before .before in
+    let start = lent-state .before .before .before .before .before .before in
+    let judged-lent = lent-state .lent-state in
     let said = c .refused .ensures in
     parts (said .0) (said .1) refl refl refl refl
-    ∙ sym (lent-refused (start .args .block .now) (start .args .labels .now) (start .args .links .now) (start .args .spans .now) (judged-lent .result) (judged-lent .ensures)
-    (let h = readHeld (start .args .block .now) in judged h (parse (h .settings) (drop (start .args .at) (start .args .input .now)))) _ (c .before .before .tested .given .1))
+    ∙ sym (lent-refused (start .args .block .now) (start .args .labels .now) (start .args .links .now) (start .args .spans .now)
+    (judged-lent .result) (judged-lent .ensures)
+    (let h = readHeld (start .args .block .now) in judged h (parse (h .settings) (drop (start .args .at) (start .args .input .now)))) _
+    (c .before .before .tested .given .1))
 
 pub record-at-spec : {M : Type 1} → statement M
 record-at-spec =

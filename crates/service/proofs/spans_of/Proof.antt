@@ -40,26 +40,34 @@ same-length-3 c = search needs
 returns : tie.Need-returns
 unfolding spanCall
 returns c =
-    let passed = c .before .before .before .before .before .before .before .before .before .enum-told .given .1 in
-    let judged-lent = c .before .before .before .before .before .before .before .before .before .before .before .before .lent-state in
-    let start = c .before .before .before .before .before .before .before .before .before .before .before .before .before .before .before .before in
+    let aside = c .before .before .before .before .before in
+    let lent-state = aside .before .before .before .before .before .before .before in
+    let start = lent-state .before .before .before .before in
+    let passed = aside .before .before .before .before .enum-told .given .1 in
+    let judged-lent = lent-state .lent-state in
     let found = judged-lent .ensures .found passed in
     let m = lent (start .args .block .now) (start .args .labels .now) (start .args .links .now) (start .args .spans .now) in
     let q = Question.Spans (start .args .item) (start .args .label) in
-    c .before .before .before .before .before .aside .ensures
+    aside .aside .ensures
     ∙ ap (λ (h : Held). effect h m (judged h (parsedBody (asQuestion (h .settings) q) [] 0))) (found .held)
-    ∙ sym (lent-passed (start .args .block .now) (start .args .labels .now) (start .args .links .now) (start .args .spans .now) (judged-lent .result) (judged-lent .ensures)
-    (let h = readHeld (start .args .block .now) in judged h (parsedBody (asQuestion (h .settings) (Question.Spans (start .args .item) (start .args .label))) [] 0)) passed)
+    ∙ sym (lent-passed (start .args .block .now) (start .args .labels .now) (start .args .links .now) (start .args .spans .now)
+    (judged-lent .result) (judged-lent .ensures)
+    (let h = readHeld (start .args .block .now) in
+    judged h (parsedBody (asQuestion (h .settings) (Question.Spans (start .args .item) (start .args .label))) [] 0)) passed)
 
 returns-2 : tie.Need-returns-2
 unfolding spanCall
 returns-2 c =
-    let judged-lent = c .before .before .before .before .before .lent-state in
-    let start = c .before .before .before .before .before .before .before .before .before in
+    let lent-state = c .before .before .before .before .before in
+    let start = lent-state .before .before .before .before in
+    let judged-lent = lent-state .lent-state in
     let said = c .refused .ensures in
     parts (said .0) (said .1) refl refl refl refl
-    ∙ sym (lent-refused (start .args .block .now) (start .args .labels .now) (start .args .links .now) (start .args .spans .now) (judged-lent .result) (judged-lent .ensures)
-    (let h = readHeld (start .args .block .now) in judged h (parsedBody (asQuestion (h .settings) (Question.Spans (start .args .item) (start .args .label))) [] 0)) _ (c .before .before .tested .given .1))
+    ∙ sym (lent-refused (start .args .block .now) (start .args .labels .now) (start .args .links .now) (start .args .spans .now)
+    (judged-lent .result) (judged-lent .ensures)
+    (let h = readHeld (start .args .block .now) in
+    judged h (parsedBody (asQuestion (h .settings) (Question.Spans (start .args .item) (start .args .label))) [] 0)) _
+    (c .before .before .tested .given .1))
 
 pub spans-of-spec : {M : Type 1} → statement M
 spans-of-spec =

@@ -22,6 +22,9 @@ empty-requires c κs = search needs
 store-requires : tie.Need-store-requires
 store-requires c κs = search needs
 
+done-requires : tie.Need-done-requires
+done-requires c κs = search needs
+
 enum-known-command : tie.Need-enum-known-command
 enum-known-command c = search needs
 
@@ -69,37 +72,52 @@ same-length c = search needs
 
 returns : tie.Need-returns
 returns c =
-    let start = c .before .before .before .before .before .before .before .before .before .before .before in
-    let emptied = ap (λ (x : Held). encode x ++ drop SIZE (start .args .block .now)) (c .before .before .before .empty .ensures .held) in
-    as-command (start .args .block .now) (start .args .labels .now) (start .args .links .now) (start .args .spans .now) (heldOf (start .args .state)) (start .args .body .now) (start .args .used) (start .args .command) _ (c .before .before .before .before .before .enum-told .given .1)
-    (parts refl refl (c .before .before .store .ensures ∙ emptied) refl refl refl)
+    let at-enum-told = c .before .before .before .before .before .before in
+    let start = at-enum-told .before .before .before .before .before .before in
+    let emptied = ap (λ (x : Held). encode x ++ drop SIZE (start .args .block .now)) (c .before .before .before .before .empty .ensures .held) in
+    as-command (start .args .block .now) (start .args .labels .now) (start .args .links .now) (start .args .spans .now)
+    (heldOf (start .args .state)) (start .args .body .now) (start .args .used) (start .args .command) _
+    (at-enum-told .enum-told .given .1)
+    (parts (c .done .ensures .0) (c .done .ensures .1) (c .before .before .before .store .ensures ∙ emptied) refl refl refl)
 
 same-length-2 : tie.Need-same-length-2
 same-length-2 c = search needs
 
 returns-2 : tie.Need-returns-2
 returns-2 c =
-    let start = c .before .before .before .before .before .before .before .before .before .before .before .before in
-    as-command (start .args .block .now) (start .args .labels .now) (start .args .links .now) (start .args .spans .now) (heldOf (start .args .state)) (start .args .body .now) (start .args .used) (start .args .command) _ (c .before .before .before .before .before .before .command .given .1)
-    (changed (start .args .block .now) (start .args .labels .now) (start .args .links .now) (start .args .spans .now) (heldOf (start .args .state)) _ _ (start .args .used) _ _ _ (c .before .before .before .with-rule .ensures) (c .before .before .keep .ensures))
+    let command = c .before .before .before .before .before .before in
+    let start = command .before .before .before .before .before .before in
+    as-command (start .args .block .now) (start .args .labels .now) (start .args .links .now) (start .args .spans .now)
+    (heldOf (start .args .state)) (start .args .body .now) (start .args .used) (start .args .command) _ (command .command .given .1)
+    (changed (start .args .block .now) (start .args .labels .now) (start .args .links .now) (start .args .spans .now)
+    (heldOf (start .args .state)) _ _ (start .args .used) _ _ _ (c .before .before .before .with-rule .ensures)
+    (c .before .before .keep .ensures))
 
 same-length-3 : tie.Need-same-length-3
 same-length-3 c = search needs
 
 returns-3 : tie.Need-returns-3
 returns-3 c =
-    let start = c .before .before .before .before .before .before .before .before .before .before .before .before in
-    as-command (start .args .block .now) (start .args .labels .now) (start .args .links .now) (start .args .spans .now) (heldOf (start .args .state)) (start .args .body .now) (start .args .used) (start .args .command) _ (c .before .before .before .before .before .before .command2 .given .1)
-    (changed (start .args .block .now) (start .args .labels .now) (start .args .links .now) (start .args .spans .now) (heldOf (start .args .state)) _ _ (start .args .used) _ _ _ (c .before .before .before .put .ensures) (c .before .before .keep2 .ensures))
+    let command2 = c .before .before .before .before .before .before in
+    let start = command2 .before .before .before .before .before .before in
+    as-command (start .args .block .now) (start .args .labels .now) (start .args .links .now) (start .args .spans .now)
+    (heldOf (start .args .state)) (start .args .body .now) (start .args .used) (start .args .command) _ (command2 .command2 .given .1)
+    (changed (start .args .block .now) (start .args .labels .now) (start .args .links .now) (start .args .spans .now)
+    (heldOf (start .args .state)) _ _ (start .args .used) _ _ _ (c .before .before .before .put .ensures)
+    (c .before .before .keep2 .ensures))
 
 same-length-4 : tie.Need-same-length-4
 same-length-4 c = search needs
 
 returns-4 : tie.Need-returns-4
 returns-4 c =
-    let start = c .before .before .before .before .before .before .before .before .before .before .before .before in
-    as-command (start .args .block .now) (start .args .labels .now) (start .args .links .now) (start .args .spans .now) (heldOf (start .args .state)) (start .args .body .now) (start .args .used) (start .args .command) _ (c .before .before .before .before .before .before .command3 .given .1)
-    (changed (start .args .block .now) (start .args .labels .now) (start .args .links .now) (start .args .spans .now) (heldOf (start .args .state)) _ _ (start .args .used) _ _ _ (c .before .before .before .take .ensures) (c .before .before .keep3 .ensures))
+    let command3 = c .before .before .before .before .before .before in
+    let start = command3 .before .before .before .before .before .before in
+    as-command (start .args .block .now) (start .args .labels .now) (start .args .links .now) (start .args .spans .now)
+    (heldOf (start .args .state)) (start .args .body .now) (start .args .used) (start .args .command) _ (command3 .command3 .given .1)
+    (changed (start .args .block .now) (start .args .labels .now) (start .args .links .now) (start .args .spans .now)
+    (heldOf (start .args .state)) _ _ (start .args .used) _ _ _ (c .before .before .before .take .ensures)
+    (c .before .before .keep3 .ensures))
 
 same-length-5 : tie.Need-same-length-5
 same-length-5 c = search needs
@@ -112,9 +130,13 @@ same-length-7 c = search needs
 
 returns-5 : tie.Need-returns-5
 returns-5 c =
-    let start = c .before .before .before .before .before .before .before .before .before .before .before .before .before .before .before .before in
-    as-command (start .args .block .now) (start .args .labels .now) (start .args .links .now) (start .args .spans .now) (heldOf (start .args .state)) (start .args .body .now) (start .args .used) (start .args .command) _ (c .before .before .before .before .before .before .before .before .before .before .command4 .given .1)
-    (questioned (start .args .block .now) (start .args .labels .now) (start .args .links .now) (start .args .spans .now) (heldOf (start .args .state)) _ (start .args .used) _ _ _ _ (c .before .before .before .before .before .answer .ensures))
+    let answer = c .before .before .before .before .before in
+    let command4 = answer .before .before .before .before .before in
+    let start = command4 .before .before .before .before .before .before in
+    as-command (start .args .block .now) (start .args .labels .now) (start .args .links .now) (start .args .spans .now)
+    (heldOf (start .args .state)) (start .args .body .now) (start .args .used) (start .args .command) _ (command4 .command4 .given .1)
+    (questioned (start .args .block .now) (start .args .labels .now) (start .args .links .now) (start .args .spans .now)
+    (heldOf (start .args .state)) _ (start .args .used) _ _ _ _ (answer .answer .ensures))
 
 pub work-spec : {M : Type 1} → statement M
 work-spec =
@@ -123,6 +145,7 @@ work-spec =
     enum-told
     empty-requires
     store-requires
+    done-requires
     enum-known-command
     with-rule-requires
     keep-requires

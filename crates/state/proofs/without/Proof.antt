@@ -12,7 +12,9 @@ use Rattle.state.proofs.without.Statement.{statement}
 use Rattle.state.proofs.without.Tie as tie
 
 abbrev Inv-loop : tie.InvT-loop
-Inv-loop at count marks left₀ i₀ i-end left i = (at ≤ i) × (i < count) × (i-end ≡ count - 1) × (length left ≡ 256) × (take i left ++ drop (i + 1) (take count marks) ≡ take at (take count marks) ++ drop (at + 1) (take count marks))
+Inv-loop at count marks left₀ i₀ i-end left i =
+    (at ≤ i) × (i < count) × (i-end ≡ count - 1) × (length left ≡ 256)
+    × (take i left ++ drop (i + 1) (take count marks) ≡ take at (take count marks) ++ drop (at + 1) (take count marks))
 
 abbrev μ-loop : tie.MeasureT-loop
 μ-loop at count marks left₀ i₀ i-end left i = count - i

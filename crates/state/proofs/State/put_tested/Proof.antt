@@ -18,15 +18,19 @@ mark-index-requires c κs = search needs
 count : (c : tie.Start) → length (take (c .args .self .«mark_count») (c .args .self .marks)) ≡ c .args .self .«mark_count»
 count c = length-take-le (c .args .self .«mark_count») (c .args .self .marks) (omega arith)
 
-none : (c : tie.Else1) → some (sameMark (c .before .before .before .args .mark)) (take (c .before .before .before .args .self .«mark_count») (c .before .before .before .args .self .marks)) ≡ false
+none : (c : tie.Else1) →
+    some (sameMark (c .before .before .before .args .mark))
+    (take (c .before .before .before .args .self .«mark_count») (c .before .before .before .args .self .marks)) ≡ false
 none c =
     let s = c .before .before .before .args .self in
-    missing (sameMark (c .before .before .before .args .mark)) (take (s .«mark_count») (s .marks)) (s .«mark_count») (c .before .mark-index .result) (count (c .before .before .before)) (c .before .mark-index .ensures) (c .if1 .left)
+    missing (sameMark (c .before .before .before .args .mark)) (take (s .«mark_count») (s .marks)) (s .«mark_count»)
+    (c .before .mark-index .result) (count (c .before .before .before)) (c .before .mark-index .ensures) (c .if1 .left)
 
 returns : tie.Need-returns
 returns c =
     let s = c .before .before .before .args .self in
-    sym (rw (found (sameMark (c .before .before .before .args .mark)) (take (s .«mark_count») (s .marks)) (s .«mark_count») (c .before .mark-index .result) (count (c .before .before .before)) (c .before .mark-index .ensures) (c .if1 .taken)))
+    sym (rw (found (sameMark (c .before .before .before .args .mark)) (take (s .«mark_count») (s .marks)) (s .«mark_count»)
+    (c .before .mark-index .result) (count (c .before .before .before)) (c .before .mark-index .ensures) (c .if1 .taken)))
 
 returns-2 : tie.Need-returns-2
 returns-2 c =
@@ -38,21 +42,45 @@ has-depth-requires c κs = search needs
 
 returns-3 : tie.Need-returns-3
 returns-3 c =
-    let s = c .before .before .before .before .before .before .args .self in
-    sym (rw (none (c .before .before .before), count (c .before .before .before .before .before .before), lt-leb 256 (s .«mark_count») (c .before .before .if2 .left), sym (c .before .has-depth .ensures) ∙ c .if3 .taken))
+    let start = c .before .before .before .before .before .before in
+    let s = start .args .self in
+    sym (rw (
+      none (c .before .before .before),
+      count start,
+      lt-leb 256 (s .«mark_count») (c .before .before .if2 .left),
+      sym (c .before .has-depth .ensures) ∙ c .if3 .taken,
+    ))
 
 depth-count-requires : tie.Need-depth-count-requires
 depth-count-requires c κs = search needs
 
 returns-4 : tie.Need-returns-4
 returns-4 c =
-    let s = c .before .before .before .before .before .before .before .before .args .self in
-    sym (rw (none (c .before .before .before .before .before), count (c .before .before .before .before .before .before .before .before), lt-leb 256 (s .«mark_count») (c .before .before .before .before .if2 .left), sym (c .before .before .before .has-depth .ensures) ∙ c .before .before .if3 .left, sym (c .before .depth-count .ensures), le-leb 96 _ (c .if4 .taken)))
+    let start = c .before .before .before .before .before in
+    let from-start = start .before .before .before in
+    let s = from-start .args .self in
+    sym (rw (
+      none start,
+      count from-start,
+      lt-leb 256 (s .«mark_count») (c .before .before .before .before .if2 .left),
+      sym (c .before .before .before .has-depth .ensures) ∙ c .before .before .if3 .left,
+      sym (c .before .depth-count .ensures),
+      le-leb 96 _ (c .if4 .taken),
+    ))
 
 returns-5 : tie.Need-returns-5
 returns-5 c =
-    let s = c .before .before .before .before .before .before .before .before .args .self in
-    sym (rw (none (c .before .before .before .before .before), count (c .before .before .before .before .before .before .before .before), lt-leb 256 (s .«mark_count») (c .before .before .before .before .if2 .left), sym (c .before .before .before .has-depth .ensures) ∙ c .before .before .if3 .left, sym (c .before .depth-count .ensures), lt-leb 96 _ (c .if4 .left)))
+    let start = c .before .before .before .before .before in
+    let from-start = start .before .before .before in
+    let s = from-start .args .self in
+    sym (rw (
+      none start,
+      count from-start,
+      lt-leb 256 (s .«mark_count») (c .before .before .before .before .if2 .left),
+      sym (c .before .before .before .has-depth .ensures) ∙ c .before .before .if3 .left,
+      sym (c .before .depth-count .ensures),
+      lt-leb 96 _ (c .if4 .left),
+    ))
 
 pub put-tested-spec : {M : Type 1} → statement M
 put-tested-spec =

@@ -49,13 +49,23 @@ returns : tie.Need-returns
 returns c = rw (c .is-concluded .ensures, c .before .is-left .ensures, c .before .before .before .self .given .1)
 
 returns-2 : tie.Need-returns-2
-returns-2 c = rw (c .is-concluded2 .ensures, c .before .is-left3 .ensures, c .before .before .is-left2 .ensures, c .before .before .before .before .self2 .given .1)
+returns-2 c = rw (
+  c .is-concluded2 .ensures,
+  c .before .is-left3 .ensures,
+  c .before .before .is-left2 .ensures,
+  c .before .before .before .before .self2 .given .1,
+)
 
 returns-3 : tie.Need-returns-3
 returns-3 c = rw (c .is-kind2 .ensures, c .before .is-kind .ensures, c .before .before .before .self3 .given .1)
 
 returns-4 : tie.Need-returns-4
-returns-4 c = rw (c .is-concluded3 .ensures, c .before .is-left4 .ensures, c .before .before .is-kind3 .ensures, c .before .before .before .before .self4 .given .1)
+returns-4 c = rw (
+  c .is-concluded3 .ensures,
+  c .before .is-left4 .ensures,
+  c .before .before .is-kind3 .ensures,
+  c .before .before .before .before .self4 .given .1,
+)
 
 pub is-named-spec : {M : Type 1} → statement M
 is-named-spec =

@@ -7,19 +7,22 @@ use Rattle.records.specs.Proper.{decode-proper}
 use Rattle.service.specs.Call.{lent, judged, effect}
 use Rattle.service.proofs.Lending.{parts}
 use borrow.Author.Needs.{needs}
-use Rattle.service.proofs.obey.Statement.{statement}
-use Rattle.service.proofs.obey.Tie as tie
+use Rattle.service.proofs.on_body.Statement.{statement}
+use Rattle.service.proofs.on_body.Tie as tie
 
-decode-requires : tie.Need-decode-requires
-decode-requires c κs = search needs
+decode-body-requires : tie.Need-decode-body-requires
+decode-body-requires c κs = search needs
 
 enum-known-command : tie.Need-enum-known-command
 enum-known-command c = search needs
 
 work-requires : tie.Need-work-requires
 work-requires c κs =
-    let start = c .before .before .before .before .before .before .before .before .before .before .before .before .before in
-    let proper = decode-proper (start .args .state .settings) (start .args .kind) (start .args .body .now) _ (sym (c .before .before .before .before .before .before .before .decode .ensures) ∙ c .before .before .before .before .before .command .given .1) in
+    let command = c .before .before .before .before .before in
+    let start = command .before .before .before .before .before .before .before .before in
+    let proper =
+    decode-proper (start .args .state .settings) (start .args .kind) (start .args .body .now) _
+    (sym (command .before .before .decode-body .ensures) ∙ command .command .given .1) in
     (start .pre .0, proper, start .pre .2)
 
 enum-known-number : tie.Need-enum-known-number
@@ -42,10 +45,14 @@ same-length-4 c = search needs
 
 returns : tie.Need-returns
 returns c =
-    let start = c .before .before .before .before .before .before .before .before .before .before .before .before .before .before .before .before .before .before .before .before .before in
+    let work = c .before .before .before .before .before .before .before in
+    let command = work .before .before .before .before .before .before in
+    let start = command .before .before .before .before .before .before .before .before in
     let h = heldOf (start .args .state) in
     let m = lent (start .args .block .now) (start .args .labels .now) (start .args .links .now) (start .args .spans .now) in
-    c .before .before .before .before .before .before .before .work .ensures ∙ ap (λ (d : Decoded). effect h m (judged h (parsedBody d (start .args .body .now) (start .args .used)))) (sym (sym (c .before .before .before .before .before .before .before .before .before .before .before .before .before .before .before .decode .ensures) ∙ c .before .before .before .before .before .before .before .before .before .before .before .before .before .command .given .1))
+    work .work .ensures
+    ∙ ap (λ (d : Decoded). effect h m (judged h (parsedBody d (start .args .body .now) (start .args .used))))
+    (sym (sym (command .before .before .decode-body .ensures) ∙ command .command .given .1))
 
 returns-2 : tie.Need-returns-2
 returns-2 c =
@@ -53,13 +60,15 @@ returns-2 c =
     let h = heldOf (start .args .state) in
     let m = lent (start .args .block .now) (start .args .labels .now) (start .args .links .now) (start .args .spans .now) in
     let said = c .refused .ensures in
-    parts (said .0) (said .1) refl refl refl refl ∙ ap (λ (d : Decoded). effect h m (judged h (parsedBody d (start .args .body .now) (start .args .used)))) (sym (sym (c .before .before .before .before .decode .ensures) ∙ c .before .before .number .given .1))
+    parts (said .0) (said .1) refl refl refl refl
+    ∙ ap (λ (d : Decoded). effect h m (judged h (parsedBody d (start .args .body .now) (start .args .used))))
+    (sym (sym (c .before .before .before .before .decode-body .ensures) ∙ c .before .before .number .given .1))
 
-pub obey-spec : {M : Type 1} → statement M
-obey-spec =
+pub on-body-spec : {M : Type 1} → statement M
+on-body-spec =
     tie.close
     (tie.spec
-    decode-requires
+    decode-body-requires
     enum-known-command
     work-requires
     enum-known-number

@@ -5,8 +5,8 @@ use native.Mathlib.Omega.{arith}
 use borrow.Author.Tests.{ne-eqb}
 use Rattle.records.specs.Records.{lengthsOf, bodyTests, commandIn}
 use Rattle.records.proofs.Laws.{sized}
-use Rattle.records.proofs.decode.Statement.{statement}
-use Rattle.records.proofs.decode.Tie as tie
+use Rattle.records.proofs.decode_body.Statement.{statement}
+use Rattle.records.proofs.decode_body.Tie as tie
 
 label-rule-requires : tie.Need-label-rule-requires
 unfolding lengthsOf
@@ -141,8 +141,8 @@ returns-13 c =
       ne-eqb _ _ (m .1),
     ) at (c .before .before .pre))
 
-pub decode-spec : {M : Type 1} → statement M
-decode-spec =
+pub decode-body-spec : {M : Type 1} → statement M
+decode-body-spec =
     tie.close
     (tie.spec
     label-rule-requires
