@@ -10,6 +10,7 @@ use lib.IntN.{ℤ}
 use lib.ListN.{length}
 use Rattle.terms.specs.declared.Mark.{Mark}
 use Rattle.terms.specs.Order.{ints}
+use Rattle.terms.specs.Limits.{CUTS}
 use Rattle.terms.specs.Held.{_∈_, Held}
 use Rattle.terms.specs.Same.{sameDepth, same-depth, depth-same}
 use Rattle.terms.specs.Lists.{some, depthCount}
@@ -69,6 +70,6 @@ depth-count (m ∷ ms) =
         fresh (was-there n) = absurd (g n)
         fresh (one-more d) = omega (arith, d, e)
 
--- 01, Pieces of the line: 193 intervals at most
-pub few-cuts : (h : Held) → Limited h → length (cutsOf h) ≤ 192
+-- 01, Pieces of the line: two cuts for each marked depth at most
+pub few-cuts : (h : Held) → Limited h → length (cutsOf h) ≤ CUTS
 few-cuts h w = omega (arith, cuts-few (h .marks), depth-count (h .marks), w .few-depths)

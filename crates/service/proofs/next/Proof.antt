@@ -123,8 +123,8 @@ same-length-4 c = search needs
 returns-3 : tie.Need-returns-3
 unfolding parse
 returns-3 c =
-    let obey = c .before .before .before .before .before .before .before in
-    let kind = obey .before .before .before .before .before .before .before in
+    let worked = c .before .before .before .before .before .before .before in
+    let kind = worked .before .before .before .before .before .before .before in
     let start = kind .before .before .before .before .before .before .before in
     let x = start .args .input .now in
     let known = kind .kind .given in
@@ -134,7 +134,7 @@ returns-3 c =
     let m = lent (start .args .block .now) (start .args .labels .now) (start .args .links .now) (start .args .spans .now) in
     let s = drop (start .args .at) (start .args .input .now) in
     let body = body-at (start .args .at) (known .0 .0) (known .0 .1 .0) x F in
-    obey .on-body .ensures
+    worked .on-body .ensures
     ∙ ap (λ (v : List ℕ). effect h m (judged h (parsedBody (decodeBody (h .settings) (known .0 .0) v) v (known .0 .1 .0)))) body
     ∙ ap (λ (f : Framed). effect h m (judged h (parsedFrame (h .settings) s f)))
     (sym (sym (kind .before .before .read .ensures) ∙ known .1))
