@@ -26,14 +26,31 @@ use Rattle.records.specs.declared.Command.{Command}
 use Rattle.records.specs.declared.Command.the-variants as Command
 use Rattle.records.specs.declared.Decoded.{Decoded}
 use Rattle.records.specs.declared.Decoded.the-variants as Decoded
+use Rattle.records.specs.declared.Framed.the-variants as Framed
+use Rattle.records.specs.Parsed.{Parsed}
 use Rattle.records.specs.Parsed as Parsed
-use Rattle.records.specs.Records.{lengthField, bodyOf, lengthsOf, allows, asQuestion, parse}
-use Rattle.records.specs.Frame.{Framed-in}
+use Rattle.records.specs.Records.{
+  lengthField,
+  bodyOf,
+  lengthsOf,
+  allows,
+  asQuestion,
+  decodeBody,
+  framed,
+  parsedBody,
+  parsedFrame,
+  parse,
+}
+use Rattle.records.specs.Frame.{Framed-in, framed-in}
 use Rattle.decide.specs.Decide.{answer}
 use Rattle.service.specs.declared.Reply as Code
 use Rattle.service.specs.declared.Lent.{Lent}
-use Rattle.service.specs.Call.{Buffers, lent, After, after, isShort, Outcome, Refused, Changed, Asked, judged, effect, onLent}
-use Rattle.service.specs.Code.{Enough, enough, Held-state, Found-in, Lent-as, Answered-as, spansAfter, afterOf, Kept-as, replied-is}
+use Rattle.service.specs.declared.Input.{Input}
+use Rattle.service.specs.declared.Input.the-variants as Input
+use Rattle.terms.specs.declared.Settings.{Settings}
+use Rattle.service.specs.Call.{Buffers, lent, After, after, isShort, Outcome, Refused, Changed, Asked, judged, effect, onLent, call}
+use Rattle.service.specs.Code.{Enough, enough, Held-state, Found-in, Lent-as, Answered-as, spansAfter}
+use Rattle.service.specs.Code.{afterOf, Kept-as, replied-is, inputOf, parsedOf, Parsed-as}
 
 -- what is given back, part by part
 pub parts :
@@ -146,6 +163,56 @@ body-allowed k u x F =
 
 pub body-room : (at k u : ℕ) (x : List ℕ) → Framed-in (drop at x) k u → (at + 4 ≤ at + u) × (at + u ≤ length x)
 body-room at k u x F = (omega (arith, F .least), omega (arith, length-drop at x, F .room, F .least))
+
+-- ---- the reading
+
+differ : {A : Type 0} → _≡_ {A = ℕ} 0 1 → A
+differ e = let z : ⊥ = omega arith in absurd z
+
+pub read-nothing : (σ : Settings) (x : List ℕ) → framed x ≡ Framed.Nothing → Parsed-as σ x Input.Nothing
+unfolding parse
+read-nothing σ x e = record { parsed = sym (ap (parsedFrame σ x) e); framed = λ c u f. differ (cc) }
+
+pub read-refused : (σ : Settings) (x : List ℕ) (n u : ℕ) → framed x ≡ Framed.Refused n u → Parsed-as σ x (Input.Refused n u)
+unfolding parse
+read-refused σ x n u e = record { parsed = sym (ap (parsedFrame σ x) e); framed = λ c w f. differ (cc) }
+
+input-parsed : (d : Decoded) (u : ℕ) (b : List ℕ) → parsedOf (inputOf d u) b ≡ parsedBody d b u
+input-parsed (Decoded.Command c) u b = refl
+input-parsed (Decoded.Refused n) u b = refl
+
+input-used : (d : Decoded) (u : ℕ) (c : Command) (w : ℕ) → inputOf d u ≡ Input.Record c w → u ≡ w
+input-used (Decoded.Command x) u c w e = cc
+input-used (Decoded.Refused n) u c w e = differ (cc)
+
+-- a frame, and what its body was decoded as
+pub read-record :
+    (σ : Settings) (x : List ℕ) (k u : ℕ) → framed x ≡ Framed.Record k u → (d : Decoded) → d ≡ decodeBody σ k (bodyOf x) → (r : Input) → r ≡ inputOf d u →
+    Parsed-as σ x r
+unfolding parse
+read-record σ x k u e d f r g = record {
+  parsed =
+      ap (λ (i : Input). parsedOf i (bodyOf x)) g
+      ∙ input-parsed d u (bodyOf x)
+      ∙ ap (λ (y : Decoded). parsedBody y (bodyOf x) u) f
+      ∙ sym (ap (parsedFrame σ x) e);
+  framed = λ c w z. (k, subst (Framed-in x k) (input-used d u c w (sym g ∙ z)) (framed-in x k u e));
+}
+
+-- the record call, by what was read
+pub call-read :
+    (b t k : List ℕ) (s : List ℤ) (r : Lent) → Lent-as b (length t) (length k) (length s) r → r .tested ≡ Tested.Passed →
+    (x : List ℕ) (i : Input) → Parsed-as (r .state .settings) x i →
+    (j : Input) → i ≡ j → let h = heldOf (r .state) in
+    call (lent b t k s) x ≡ effect h (lent b t k s) (judged h (parsedOf j (bodyOf x)))
+unfolding call
+call-read b t k s r L passed x i P j e =
+    let m = lent b t k s in
+    let H = readHeld b in
+    lent-passed b t k s r L (judged H (parse (H .settings) x)) passed
+    ∙ ap (λ (h : Held). effect h m (judged h (parse (h .settings) x))) (sym (L .found passed .held))
+    ∙ ap (λ (p : Parsed). effect (heldOf (r .state)) m (judged (heldOf (r .state)) p)) (sym (P .parsed))
+    ∙ ap (λ (y : Input). effect (heldOf (r .state)) m (judged (heldOf (r .state)) (parsedOf y (bodyOf x)))) e
 
 -- ---- a question beside the records
 

@@ -27,6 +27,16 @@ use Rattle.decide.specs.Decide.{Yes, No, Spans, Reply, Contradiction, Answered,
 use Rattle.decide.specs.Verdicts.{answerOf, tableVerdict}
 use Rattle.service.specs.declared.Reply as Code
 use Rattle.service.specs.declared.Lent.{Lent}
+use Rattle.service.specs.declared.Input.{Input}
+use Rattle.service.specs.declared.Input.the-variants as Input
+use Rattle.records.specs.declared.Command.{Command}
+use Rattle.records.specs.declared.Decoded.{Decoded}
+use Rattle.records.specs.declared.Decoded.the-variants as Decoded
+use Rattle.records.specs.Parsed.{Parsed}
+use Rattle.records.specs.Parsed as Parsed
+use Rattle.records.specs.Records.{bodyOf, parse}
+use Rattle.records.specs.Frame.{Framed-in}
+use Rattle.terms.specs.declared.Settings.{Settings}
 use Rattle.service.specs.Call.{Buffers, lent, After, after, isShort, filled, replied}
 
 -- enough is lent
@@ -109,6 +119,22 @@ pub record Kept-as (l : Listed) (used : ℕ) (old new : List ℕ) (r : Code.Repl
   pub said : r .answer ≡ onTested Answer.Done Answer.Refused (l .tested)
   pub block : new ≡ onTested (encode (heldOf (l .state)) ++ drop SIZE old) (λ n. old) (l .tested)
   pub bytes : r .used ≡ used
+
+-- what was decoded, with the bytes of its record
+abbrev pub inputOf : Decoded → ℕ → Input
+inputOf (Decoded.Command c) u = Input.Record c u
+inputOf (Decoded.Refused n) u = Input.Refused n u
+
+-- what was read, with the body beside its command
+abbrev pub parsedOf : Input → List ℕ → Parsed
+parsedOf Input.Nothing b = Parsed.Nothing
+parsedOf (Input.Refused n u) b = Parsed.Refused n u
+parsedOf (Input.Record c u) b = Parsed.Record c b u
+
+-- the bytes are read as the definition says, and a record lies within them
+pub record Parsed-as (σ : Settings) (s : List ℕ) (r : Input) : Type 0 where
+  pub parsed : parsedOf r (bodyOf s) ≡ parse σ s
+  pub framed : (c : Command) (u : ℕ) → r ≡ Input.Record c u → (k : ℕ) × Framed-in s k u
 
 -- a reply by its parts
 pub replied-is : (h : Held) (m : Buffers) (u : ℕ) (r : Reply) → replied h m u r ≡ after (answerOf r) u (filled h m (spansAfter r (m .spans)))

@@ -1,7 +1,7 @@
 // The service: one record, or one question beside the records.
 ghost use mathlib.Core.Path.{_≡_};
 ghost use mathlib.Core.List.{[]};
-ghost use Prim.Native.Nat.{_+_, _≤_, _<_};
+ghost use Prim.Native.Nat.{_≤_};
 ghost use lib.Dec.{T};
 ghost use lib.ListN.{length, take, drop};
 ghost use Rattle.terms.specs.Limits.{CUTS, LABEL-ENTRIES, LINK-ENTRIES};
@@ -9,11 +9,11 @@ ghost use Rattle.terms.specs.declared.Answer.the-variants as Answer;
 ghost use Rattle.state.specs.State.{heldOf, Counts-in};
 ghost use Rattle.block.specs.Block.{SIZE};
 ghost use Rattle.records.specs.Parsed as Parsed;
-ghost use Rattle.records.specs.Records.{allows, lengthsOf, asQuestion, decodeBody, parsedBody, parse};
+ghost use Rattle.records.specs.Records.{asQuestion, parsedBody};
 ghost use Rattle.records.specs.Proper.{Proper};
 ghost use Rattle.tables.specs.Seeded.{Tables-derived};
 ghost use Rattle.service.specs.Call.{lent, isShort, judged, effect, call, spanCall};
-ghost use Rattle.service.specs.Code.{Enough, Held-state, Lent-as, To-read, Read-off, To-answer, Answered-as, Kept-as, afterOf};
+ghost use Rattle.service.specs.Code.{Enough, Held-state, Lent-as, To-read, Read-off, To-answer, Answered-as, Kept-as, inputOf, Parsed-as, afterOf};
 use records::Command;
 use records::Decoded;
 use records::Framed;
@@ -22,6 +22,7 @@ use state::State;
 use terms::Answer;
 use terms::CUTS;
 use terms::Question;
+use terms::Settings;
 use terms::Tested;
 use terms::wide;
 use verdicts::Clash;
@@ -36,6 +37,14 @@ pub struct Reply {
 pub struct Lent {
     pub tested: Tested,
     pub state: State,
+}
+
+// What is left of the input, read: nothing; a refusal's number and the bytes used; a command and the bytes of its record. The body stands beside it in
+// the input. (The state is not handed through the reading: each hand-on by value is a copy on the stack.)
+pub enum Input {
+    Nothing,
+    Refused(u8, usize),
+    Record(Command, usize),
 }
 
 fn refused(number: u8, used: usize) -> Reply
@@ -199,59 +208,25 @@ fn work(
     }
 }
 
-// A record that has a frame: its body is decoded under the settings.
-fn on_body(
-    kind: u16,
-    body: &[u8],
-    state: State,
-    block: &mut [u8],
-    labels: &mut [u64],
-    links: &mut [u8],
-    spans: &mut [i32],
-    used: usize,
-) -> Reply
-    requires { ⌜ Held-state state × T (allows (lengthsOf kind) (length (now body) + 2))
-        × Enough (length (now block)) (length (now labels)) (length (now links)) (length (now spans)) ⌝ }
-    ensures { λ r. ⌜ afterOf r (now (block .exit)) (now (labels .exit)) (now (links .exit)) (now (spans .exit))
-        ≡ effect (heldOf state) (lent (now (block .entry)) (now (labels .entry)) (now (links .entry)) (now (spans .entry)))
-        (judged (heldOf state) (parsedBody (decodeBody (heldOf state .settings) kind (now (body .entry))) (now (body .entry)) used)) ⌝ }
+// A body that was decoded, with the bytes of its record.
+fn input_of(decoded: Decoded, used: usize) -> Input
+    ensures { λ r. ⌜ r ≡ inputOf decoded used ⌝ }
 {
-    let settings = state.settings;
-    match records::decode_body(settings, kind, body) {
-        Decoded::Command(command) => work(command, body, state, block, labels, links, spans, used),
-        Decoded::Refused(number) => refused(number, used),
+    match decoded {
+        Decoded::Command(command) => Input::Record(command, used),
+        Decoded::Refused(number) => Input::Refused(number, used),
     }
 }
 
-// What is left of the input from a place on, with what is held.
-fn next(
-    state: State,
-    block: &mut [u8],
-    labels: &mut [u64],
-    links: &mut [u8],
-    spans: &mut [i32],
-    input: &[u8],
-    at: usize,
-) -> Reply
-    requires { ⌜ Held-state state × Enough (length (now block)) (length (now labels)) (length (now links)) (length (now spans)) ⌝ }
-    ensures { λ r. ⌜ afterOf r (now (block .exit)) (now (labels .exit)) (now (links .exit)) (now (spans .exit))
-        ≡ effect (heldOf state) (lent (now (block .entry)) (now (labels .entry)) (now (links .entry)) (now (spans .entry)))
-        (judged (heldOf state) (parse (heldOf state .settings) (drop at (now (input .entry))))) ⌝ }
+// What is left of the input from a place on: the frame, then the body under the settings.
+fn parse(settings: Settings, input: &[u8], at: usize) -> Input
+    ensures { λ r. ⌜ Parsed-as settings (drop at (now (input .entry))) r ⌝ }
 {
     match reader::read(input, at) {
-        Framed::Nothing => Reply {
-            answer: Answer::End,
-            used: 0,
-        },
-        Framed::Refused(number, used) => refused(number, used),
-        Framed::Record(kind, used) => on_body(
-            kind,
-            &input[at + 4..at + used],
-            state,
-            block,
-            labels,
-            links,
-            spans,
+        Framed::Nothing => Input::Nothing,
+        Framed::Refused(number, used) => Input::Refused(number, used),
+        Framed::Record(kind, used) => input_of(
+            records::decode_body(settings, kind, &input[at + 4..at + used]),
             used,
         ),
     }
@@ -272,9 +247,26 @@ pub fn record_at(
     let found = lent_state(block, labels.len(), links.len(), spans.len());
     let tested = found.tested;
     let state = found.state;
+    let settings = state.settings;
     match tested {
-        Tested::Passed => next(state, block, labels, links, spans, input, at),
         Tested::Refused(number) => refused(number, 0),
+        Tested::Passed => match parse(settings, input, at) {
+            Input::Nothing => Reply {
+                answer: Answer::End,
+                used: 0,
+            },
+            Input::Refused(number, used) => refused(number, used),
+            Input::Record(command, used) => work(
+                command,
+                &input[at + 4..at + used],
+                state,
+                block,
+                labels,
+                links,
+                spans,
+                used,
+            ),
+        },
     }
 }
 
