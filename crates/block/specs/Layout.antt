@@ -1,4 +1,4 @@
--- A rule's and a mark's place in the block: eight bytes each.
+-- The settings in the block's header, and a rule's and a mark's place in it: eight bytes each.
 use Prim.Native.Nat.{ℕ, zero, suc, _+_}
 use mathlib.Core.Bool.{cond}
 use mathlib.Core.List.{List, [], _∷_, _++_}

@@ -1,4 +1,5 @@
--- Over every list of calls the record call and the reference machine agree, at every place. Assumes nothing.
+-- Over every list of calls the record call and the reference machine agree, at every place, under `Laws` of the layout and of
+-- records, which Whole proves.
 use mathlib.Core.Path.{_≡_, refl, sym, ap, _∙_, subst}
 use mathlib.Core.Bool.{Bool, true, false, not, cond, true≢false}
 use mathlib.Core.List.{List, [], _∷_, _++_, append-assoc}

@@ -1,4 +1,5 @@
--- A block is good exactly if a run of records from zeros leads to it. Assumes nothing.
+-- A block is good exactly if a run of records from zeros leads to it, under `Laws` and with records for rules and marks,
+-- which Whole gives.
 use mathlib.Core.Path.{_≡_, refl, sym, ap, _∙_, subst}
 use mathlib.Core.Logic.{_⊎_, ⊎-elim, _↔_}
 use mathlib.Core.Bool.{Bool, true, false, not, _&&_, _||_}
@@ -15,7 +16,7 @@ use Rattle.terms.specs.Limits.{RULES, MARKS, DEPTHS, LABEL-ENTRIES, LINK-ENTRIE
 use Rattle.terms.specs.declared.Settings.{Settings}
 use Rattle.terms.specs.declared.Tested.the-variants as Tested
 use Rattle.terms.specs.Refusals.{tested}
-use Rattle.terms.specs.Held.{_∈_, Held, isRule, isMark}
+use Rattle.terms.specs.Held.{_∈_, Held, isRule, isMark, isSettings}
 use Rattle.terms.specs.Same.{sameRule, sameMark, same-rule, rule-same, same-mark, mark-same, depth-same}
 use Rattle.terms.specs.Lists.{some, once, depthCount, limits}
 use Rattle.line.specs.Cuts.{insert, insert-asc, insert-only, Inserted, was-there, one-more, inserted, depthsOf, depths-only}
@@ -47,7 +48,7 @@ memories-snoc : (mem : List ℕ) (es : List Event) (e : Event) → memories mem 
 memories-snoc mem [] e = refl
 memories-snoc mem (d ∷ es) e = memories-snoc (memAfter mem d) es e
 
--- some run of records leads from zeros to these bytes
+-- some run of records leads from zeros to these bytes; calls beside the records, which change nothing, may stand in it
 pub record Run-to (b : List ℕ) : Type 0 where
   pub events : List Event
   pub leads : memories (zeros SIZE) events ≡ b
@@ -164,8 +165,8 @@ module _ (𝓛 : Laws) (rule-record : (σ : Settings) (ρ : Rule) → T (isRule 
   of-parts σ rs ms = record { rules = rs; marks = ms; settings = σ }
 
   -- nothing is set yet, so that no record is needed
-  reach-settings : (σ : Settings) → Reached (of-parts σ [] [])
-  reach-settings σ = record { events = []; held = empty-limited; memory = sym (𝓛 .encode-empty) }
+  reach-settings : (σ : Settings) → T (isSettings σ) → Reached (of-parts σ [] [])
+  reach-settings σ t = record { events = []; held = empty-limited; memory = sym (𝓛 .encode-empty) }
 
   module _ (σ : Settings) where
     reach-rules :
@@ -201,7 +202,8 @@ module _ (𝓛 : Laws) (rule-record : (σ : Settings) (ρ : Rule) → T (isRule 
   reachable h w =
       let σ = h .settings in
       reach-marks σ (h .rules) [] (h .marks) (w .once-marks) (λ m n. every-in isMark (h .marks) (w .marks) m n) (omega (arith, w .few-marks)) (w .few-depths)
-      (reach-rules σ [] (h .rules) (w .once-rules) (λ ρ n. every-in isRule (h .rules) (w .rules) ρ n) (omega (arith, w .few-rules)) (reach-settings σ))
+      (reach-rules σ [] (h .rules) (w .once-rules) (λ ρ n. every-in isRule (h .rules) (w .rules) ρ n) (omega (arith, w .few-rules))
+      (reach-settings σ (w .settings)))
 
   -- 01, Where a record is turned away: number 2 is for a block that no run of records from all zeros leads to
   pub good-exactly :

@@ -1,19 +1,17 @@
--- Demand 1, the numbers: 01's table of refusals as one list of tests for each call, and the record call by the lowest that applies. Assumes nothing.
+-- Demand 1, the numbers: 01's table of refusals as one list of tests for each record call, and the call by the lowest that applies. Assumes nothing.
 use mathlib.Core.Path.{_≡_, refl, sym, ap, _∙_, subst}
 use mathlib.Core.Logic.{_↔_}
 use mathlib.Core.Bool.{Bool, true, false, not, cond}
 use mathlib.Core.List.{List, [], _∷_, _++_}
-use Prim.Native.Nat.{ℕ, _+_, _≤_}
+use Prim.Native.Nat.{ℕ, _+_, _≤_, _<_}
 use native.Mathlib.Omega.{arith}
 use borrow.Author.Tests.{ne-eqb, lt-ltb, le-ltb}
 use lib.Dec.{T, eqb}
 use lib.ListN.{length}
 use Rattle.terms.specs.declared.Answer.the-variants as Answer
-use Rattle.terms.specs.declared.Settings.{Settings}
 use Rattle.terms.specs.declared.Tested.{Tested}
 use Rattle.terms.specs.declared.Tested.the-variants as Tested
 use Rattle.terms.specs.Refusals.{rank, Test, test, tested, onTested, orElse}
-use Rattle.terms.specs.Ranks.{rank-same}
 use Rattle.terms.specs.Held.{_∈_, Held}
 use Rattle.block.specs.Block.{readHeld, good}
 use Rattle.records.specs.declared.Command.{Command}
@@ -34,7 +32,7 @@ use Rattle.records.specs.Records.{
   parsedFrame,
   parse,
 }
-use Rattle.records.specs.Proper.{at-rows}
+use Rattle.records.specs.Proper.{at-rows, at-two}
 use Rattle.decide.specs.Decide.{Yes, No, Spans, Reply, Contradiction, Answered, answer}
 use Rattle.service.specs.Call.{
   Buffers,
@@ -96,65 +94,114 @@ by-tests m s t = onTested (accepted m s) (λ n. after (Answer.Refused n) (usedFo
 
 -- ---- the ranks ascend
 
-lent-ascends : (m : Buffers) → Ascends 1 2 (lentTests m)
+lent-ascends : (m : Buffers) → Ascends (rank 1) (rank 2) (lentTests m)
 unfolding rank
 lent-ascends m = (omega arith, omega arith, (omega arith, omega arith, tt))
 
-frame-ascends : (s : List ℕ) → Ascends 3 5 (frameTests s)
+frame-ascends : (s : List ℕ) → Ascends (rank 3) (rank 5) (frameTests s)
 unfolding rank
 frame-ascends s =
     (omega arith, omega arith, (omega arith, omega arith, (omega arith, omega arith, (omega arith, omega arith, (omega arith, omega arith, tt)))))
 
--- a body has a test of names, and may have one of operator or depth behind it; whether they apply plays no part
-six : Ascends 6 8 (test true 6 ∷ [])
+-- ---- the rows of each kind from 6 on, its body's and its command's; whether they apply plays no part
+
+abbrev From-six : List Test → Type 0
+From-six ts = Ascends (rank 6) (rank 12) ts
+
+no-rows : From-six []
+no-rows = tt
+
+plain-rule : From-six (test true 6 ∷ test true 9 ∷ test true 11 ∷ [])
 unfolding rank
-six = (omega arith, omega arith, tt)
+plain-rule = (omega arith, omega arith, (omega arith, omega arith, (omega arith, omega arith, tt)))
 
-six-seven : Ascends 6 8 (test true 6 ∷ test true 7 ∷ [])
+operator-rule : From-six (test true 6 ∷ test true 7 ∷ test true 9 ∷ test true 11 ∷ [])
 unfolding rank
-six-seven = (omega arith, omega arith, (omega arith, omega arith, tt))
+operator-rule = (omega arith, omega arith, (omega arith, omega arith, (omega arith, omega arith, (omega arith, omega arith, tt))))
 
-six-eight : Ascends 6 8 (test true 6 ∷ test true 8 ∷ [])
+put-rows : From-six (test true 6 ∷ test true 8 ∷ test true 9 ∷ test true 11 ∷ test true 12 ∷ [])
 unfolding rank
-six-eight = (omega arith, omega arith, (omega arith, omega arith, tt))
+put-rows = (omega arith, omega arith, (omega arith, omega arith, (omega arith, omega arith, (omega arith, omega arith, (omega arith, omega arith, tt)))))
 
-body-ascends : (σ : Settings) (k : ℕ) (b : List ℕ) → Ascends 6 8 (bodyTests σ k b)
-unfolding bodyTests
-body-ascends σ k b =
-    at-rows (λ ts. Ascends 6 8 ts) (λ r. r .tests σ b) [] kinds tt
-    (tt, (six-seven, (six, (six-seven, (six, (six-eight, (six-eight, (six-eight, (six-eight, (six, (six, (six, tt)))))))))))) k
-
-list-ascends : (h : Held) (c : Command) (b : List ℕ) → Ascends 9 12 (listTests h c b)
+take-rows : From-six (test true 6 ∷ test true 8 ∷ test true 10 ∷ [])
 unfolding rank
-list-ascends h Command.Reset b = tt
-list-ascends h (Command.Add ρ) b = (omega arith, omega arith, (omega arith, omega arith, tt))
-list-ascends h (Command.Put m) b = (omega arith, omega arith, (omega arith, omega arith, (omega arith, omega arith, tt)))
-list-ascends h (Command.Take m) b = (omega arith, omega arith, tt)
-list-ascends h (Command.Ask q) b = tt
+take-rows = (omega arith, omega arith, (omega arith, omega arith, (omega arith, omega arith, tt)))
 
-record-ascends : (h : Held) (s : List ℕ) → Ascends 6 12 (recordTests h s)
+question-rows : From-six (test true 6 ∷ [])
+unfolding rank
+question-rows = (omega arith, omega arith, tt)
+
+record-ascends : (h : Held) (s : List ℕ) → From-six (recordTests h s)
+unfolding bodyTests commandIn
 record-ascends h s =
-    let body = bodyTests (h .settings) (kindField s) (bodyOf s) in
-    let lists = listTests h (commandOf s) (bodyOf s) in
-    ascends-append 6 8 12 body lists (omega arith) (omega arith) (body-ascends (h .settings) (kindField s) (bodyOf s))
-    (wider 9 12 8 12 lists (omega arith) (omega arith) (list-ascends h (commandOf s) (bodyOf s)))
+    let b = bodyOf s in
+    let σ = h .settings in
+    subst (λ (ts : List Test). From-six ts)
+    (sym (at-two (λ ts c. ts ++ listTests h c b) (λ r. r .tests σ b) (λ r. r .command b) [] Command.Reset kinds (kindField s)))
+    (at-rows (λ (ts : List Test). From-six ts) (λ r. r .tests σ b ++ listTests h (r .command b) b) [] kinds no-rows (
+      no-rows,
+      (
+        operator-rule,
+        (
+          plain-rule,
+          (
+            operator-rule,
+            (
+              plain-rule,
+              (
+                put-rows,
+                (
+                  put-rows,
+                  (
+                    take-rows,
+                    (
+                      take-rows,
+                      (question-rows, (question-rows, (question-rows, tt))),
+                    ),
+                  ),
+                ),
+              ),
+            ),
+          ),
+        ),
+      ),
+    ) (kindField s))
+
+-- ---- the whole table
+
+two-three : rank 2 < rank 3
+unfolding rank
+two-three = omega arith
+
+three-six : rank 3 < rank 6
+unfolding rank
+three-six = omega arith
+
+twelfth : rank 12 ≡ 12
+unfolding rank
+twelfth = refl
+
+ordered : (rank 2 ≤ rank 3) × (rank 5 ≤ rank 6) × (rank 6 ≤ rank 12) × (rank 3 ≤ rank 5) × (rank 1 ≤ rank 2)
+unfolding rank
+ordered = (omega arith, omega arith, omega arith, omega arith, omega arith)
 
 by-bool : (low high : ℕ) (v : Bool) (xs ys : List Test) → Ascends low high xs → Ascends low high ys → Ascends low high (cond v xs ys)
 by-bool low high true xs ys a b = a
 by-bool low high false xs ys a b = b
 
-input-ascends : (h : Held) (s : List ℕ) → Ascends 3 12 (inputTests h s)
+input-ascends : (h : Held) (s : List ℕ) → Ascends (rank 3) (rank 12) (inputTests h s)
 input-ascends h s =
-    by-bool 3 12 (eqb (length s) 0) [] (frameTests s ++ recordTests h s) tt
-    (ascends-append 3 5 12 (frameTests s) (recordTests h s) (omega arith) (omega arith) (frame-ascends s)
-    (wider 6 12 5 12 (recordTests h s) (omega arith) (omega arith) (record-ascends h s)))
+    by-bool (rank 3) (rank 12) (eqb (length s) 0) [] (frameTests s ++ recordTests h s) tt
+    (ascends-append (rank 3) (rank 5) (rank 12) (frameTests s) (recordTests h s) (ordered .3) (omega (arith, ordered .1, ordered .2)) (frame-ascends s)
+    (wider (rank 6) (rank 12) (rank 5) (rank 12) (recordTests h s) (ordered .1) (omega arith) (record-ascends h s)))
 
 -- the table's ranks ascend from the first to the last
-pub tests-ascend : (m : Buffers) (s : List ℕ) → Ascends 1 12 (tests m s)
+pub tests-ascend : (m : Buffers) (s : List ℕ) → Ascends (rank 1) (rank 12) (tests m s)
 unfolding tests
 tests-ascend m s =
-    ascends-append 1 2 12 (lentTests m) (inputTests (readHeld (m .block)) s) (omega arith) (omega arith) (lent-ascends m)
-    (wider 3 12 2 12 (inputTests (readHeld (m .block)) s) (omega arith) (omega arith) (input-ascends (readHeld (m .block)) s))
+    let input = inputTests (readHeld (m .block)) s in
+    ascends-append (rank 1) (rank 2) (rank 12) (lentTests m) input (ordered .4) (omega (arith, ordered .0, ordered .3, ordered .1, ordered .2)) (lent-ascends m)
+    (wider (rank 3) (rank 12) (rank 2) (rank 12) input (ordered .0) (omega arith) (input-ascends (readHeld (m .block)) s))
 
 -- ---- the call by its table
 
@@ -165,38 +212,41 @@ module _ (m : Buffers) (s : List ℕ) where
   abbrev used : ℕ
   used = lengthField s + 2
 
-  third : rank 3 ≡ 3
-  third = rank-same 3 (omega arith) (omega arith)
+  used-none : (n : ℕ) → rank n < rank 3 → usedFor n s ≡ 0
+  used-none n l = ap (λ v. cond v 0 (cond (eqb n 3) (length s) used)) (lt-ltb (rank n) (rank 3) l)
 
-  used-none : (n : ℕ) → rank n ≤ 2 → usedFor n s ≡ 0
-  used-none n l = ap (λ v. cond v 0 (cond (eqb n 3) (length s) used)) (lt-ltb (rank n) (rank 3) (omega (arith, third)))
-
-  used-whole : (n : ℕ) → 4 ≤ rank n → usedFor n s ≡ used
+  used-whole : (n : ℕ) → rank 3 < rank n → usedFor n s ≡ used
   used-whole n l =
-      ap (λ v. cond v 0 (cond (eqb n 3) (length s) used)) (le-ltb (rank n) (rank 3) (omega (arith, third)))
-      ∙ ap (λ v. cond v (length s) used) (ne-eqb n 3 (λ e. omega (arith, ap rank e, third)))
+      ap (λ v. cond v 0 (cond (eqb n 3) (length s) used)) (le-ltb (rank n) (rank 3) (omega arith))
+      ∙ ap (λ v. cond v (length s) used) (ne-eqb n 3 (λ e. omega (arith, ap rank e)))
 
   refused-with : (n u : ℕ) → usedFor n s ≡ u → after (Answer.Refused n) u m ≡ by-tests m s (Tested.Refused n)
   refused-with n u e = ap (λ v. after (Answer.Refused n) v m) (sym e)
 
   -- the rows of the lists
   by-lists :
-      eqb (length s) 0 ≡ false → (t : Tested) → ((n : ℕ) → t ≡ Tested.Refused n → 9 ≤ rank n) →
+      eqb (length s) 0 ≡ false → (t : Tested) → ((n : ℕ) → t ≡ Tested.Refused n → rank 3 < rank n) →
       effect h m (onTested (obey h (commandOf s) (bodyOf s) used) (λ n. Refused n used) t) ≡ by-tests m s t
   by-lists e Tested.Passed r = ap (λ v. effect h m (cond v Ended (obey h (commandOf s) (bodyOf s) used))) (sym e)
-  by-lists e (Tested.Refused n) r = refused-with n used (used-whole n (omega (arith, r n refl)))
+  by-lists e (Tested.Refused n) r = refused-with n used (used-whole n (r n refl))
 
-  -- the rows of the body
+  -- the rows of the body before them
   by-body :
-      eqb (length s) 0 ≡ false → (t : Tested) → ((n : ℕ) → t ≡ Tested.Refused n → 6 ≤ rank n) →
-      effect h m (judged h (parsedBody (decodedAs t (commandOf s)) (bodyOf s) used)) ≡ by-tests m s (orElse t (tested (listTests h (commandOf s) (bodyOf s))))
-  by-body e Tested.Passed r =
-      let lists = listTests h (commandOf s) (bodyOf s) in
-      by-lists e (tested lists) (λ n f. tested-in 9 12 lists (list-ascends h (commandOf s) (bodyOf s)) n f .0)
-  by-body e (Tested.Refused n) r = refused-with n used (used-whole n (omega (arith, r n refl)))
+      eqb (length s) 0 ≡ false → (t u : Tested) → u ≡ tested (listTests h (commandOf s) (bodyOf s)) →
+      ((n : ℕ) → orElse t u ≡ Tested.Refused n → rank 3 < rank n) →
+      effect h m (judged h (parsedBody (decodedAs t (commandOf s)) (bodyOf s) used)) ≡ by-tests m s (orElse t u)
+  by-body e Tested.Passed u f r =
+      ap (λ (v : Tested). effect h m (onTested (obey h (commandOf s) (bodyOf s) used) (λ n. Refused n used) v)) (sym f) ∙ by-lists e u r
+  by-body e (Tested.Refused n) u f r = refused-with n used (used-whole n (r n refl))
 
   abbrev rest : Tested
   rest = orElse (tested (bodyTests (h .settings) (kindField s) (bodyOf s))) (tested (listTests h (commandOf s) (bodyOf s)))
+
+  tested-rest : tested (recordTests h s) ≡ rest
+  tested-rest = tested-append (bodyTests (h .settings) (kindField s) (bodyOf s)) (listTests h (commandOf s) (bodyOf s))
+
+  past-frame : (n : ℕ) → rest ≡ Tested.Refused n → rank 3 < rank n
+  past-frame n e = let w = tested-in (rank 6) (rank 12) (recordTests h s) (record-ascends h s) n (tested-rest ∙ e) in omega (arith, w .0, three-six)
 
   -- the rows of the frame
   by-frame :
@@ -204,14 +254,11 @@ module _ (m : Buffers) (s : List ℕ) where
       effect h m (judged h (parsedFrame (h .settings) s (onTested (Framed.Record (kindField s) used) (λ n. Framed.Refused n (usedFor n s)) t)))
       ≡ by-tests m s (orElse t rest)
   by-frame e Tested.Passed =
-      let body = bodyTests (h .settings) (kindField s) (bodyOf s) in
-      by-body e (tested body) (λ n f. tested-in 6 8 body (body-ascends (h .settings) (kindField s) (bodyOf s)) n f .0)
+      by-body e (tested (bodyTests (h .settings) (kindField s) (bodyOf s))) (tested (listTests h (commandOf s) (bodyOf s))) refl past-frame
   by-frame e (Tested.Refused n) = refl
 
   tested-record : tested (frameTests s ++ recordTests h s) ≡ orElse (tested (frameTests s)) rest
-  tested-record =
-      tested-append (frameTests s) (recordTests h s)
-      ∙ ap (orElse (tested (frameTests s))) (tested-append (bodyTests (h .settings) (kindField s) (bodyOf s)) (listTests h (commandOf s) (bodyOf s)))
+  tested-record = tested-append (frameTests s) (recordTests h s) ∙ ap (orElse (tested (frameTests s))) tested-rest
 
   -- the rows of the input
   by-input : effect h m (judged h (parse (h .settings) s)) ≡ by-tests m s (tested (inputTests h s))
@@ -228,7 +275,7 @@ module _ (m : Buffers) (s : List ℕ) where
 
   -- and those of lent memory
   by-lent :
-      (t : Tested) → ((n : ℕ) → t ≡ Tested.Refused n → rank n ≤ 2) →
+      (t : Tested) → ((n : ℕ) → t ≡ Tested.Refused n → rank n < rank 3) →
       onTested (effect h m (judged h (parse (h .settings) s))) (λ n. after (Answer.Refused n) 0 m) t ≡ by-tests m s (orElse t (tested (inputTests h s)))
   by-lent Tested.Passed r = by-input
   by-lent (Tested.Refused n) r = refused-with n 0 (used-none n (r n refl))
@@ -241,7 +288,7 @@ module _ (m : Buffers) (s : List ℕ) where
   pub call-by-tests : call m s ≡ by-tests m s (tested (tests m s))
   unfolding call
   call-by-tests =
-      by-lent (tested (lentTests m)) (λ n e. tested-in 1 2 (lentTests m) (lent-ascends m) n e .1)
+      by-lent (tested (lentTests m)) (λ n e. let w = tested-in (rank 1) (rank 2) (lentTests m) (lent-ascends m) n e in omega (arith, w .1, two-three))
       ∙ ap (by-tests m s) (sym tested-parts)
 
 -- ---- in its row's case and in no other
@@ -287,16 +334,16 @@ pub refused-lowest :
     ((t : Test) × (t ∈ tests m s) × T (t .applies) × (t .number ≡ n)) × ((t : Test) → t ∈ tests m s → T (t .applies) → rank n ≤ rank (t .number))
 refused-lowest m s n e =
     let f = refused-tested m s n e in
-    (tested-applies (tests m s) n f, λ t i a. tested-lowest 1 12 (tests m s) (tests-ascend m s) n f t i a)
+    (tested-applies (tests m s) n f, λ t i a. tested-lowest (rank 1) (rank 12) (tests m s) (tests-ascend m s) n f t i a)
 
 -- so it is the lowest number too, since each number of the table is its own rank
 pub refused-lowest-number :
     (m : Buffers) (s : List ℕ) (n : ℕ) → call m s .answer ≡ Answer.Refused n → (t : Test) → t ∈ tests m s → T (t .applies) → n ≤ t .number
 refused-lowest-number m s n e t i a =
     let w = refused-lowest m s n e in
-    let high = tested-in 1 12 (tests m s) (tests-ascend m s) n (refused-tested m s n e) .1 in
-    let own = in-range 1 12 (tests m s) (tests-ascend m s) t i .1 in
-    omega (arith, w .1 t i a, rank-number n high, rank-number (t .number) own)
+    let high = tested-in (rank 1) (rank 12) (tests m s) (tests-ascend m s) n (refused-tested m s n e) .1 in
+    let own = in-range (rank 1) (rank 12) (tests m s) (tests-ascend m s) t i .1 in
+    omega (arith, w .1 t i a, rank-number n (omega (arith, high, twelfth)), rank-number (t .number) (omega (arith, own, twelfth)))
 
 -- where a row applies, the call is refused
 pub applies-refused : (m : Buffers) (s : List ℕ) (t : Test) → t ∈ tests m s → T (t .applies) → (n : ℕ) × (call m s .answer ≡ Answer.Refused n)
@@ -318,8 +365,8 @@ two-by-block m s = (there, back)
 
     of-lent : (t : Tested) → orElse t (tested input) ≡ Tested.Refused 2 → t ≡ Tested.Refused 2
     of-lent Tested.Passed e =
-        let w = tested-in 3 12 input (input-ascends (readHeld (m .block)) s) 2 e in
-        let z : ⊥ = omega (arith, w .0, rank-same 2 (omega arith) (omega arith)) in absurd z
+        let w = tested-in (rank 3) (rank 12) input (input-ascends (readHeld (m .block)) s) 2 e in
+        let z : ⊥ = omega (arith, w .0, two-three) in absurd z
     of-lent (Tested.Refused n) e = e
 
     there : call m s .answer ≡ Answer.Refused 2 → (short m ≡ false) × (good (m .block) ≡ false)

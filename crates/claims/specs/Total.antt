@@ -46,7 +46,7 @@ refused-keeps m s n = go (tested (lentTests m))
     go Tested.Passed e = effect-refused h m (judged h (parse (h .settings) s)) n e
     go (Tested.Refused k) e = refl
 
--- what an answer keeps: only done changes the block, only questions change the tables, only spans write the span buffer
+-- what an answer keeps: only done changes the block, and done leaves the tables; only spans write the span buffer; end changes nothing
 pub record Keeps (a : Answer) (m after : Buffers) : Type 0 where
   pub block : (a ≡ Answer.Done → ⊥) → after .block ≡ m .block
   pub tables : a ≡ Answer.Done → (after .labels ≡ m .labels) × (after .links ≡ m .links)

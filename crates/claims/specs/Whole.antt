@@ -66,7 +66,7 @@ whole-life es = lived laws es
 written : (σ : Settings) (c : Command) → T (isChange c) → Written σ c
 written σ c p = record { bytes = write c; body = changeBody c; used = length (write c); reads = parse-write σ c p }
 
--- 01, Where a record is turned away: a block long enough gives number 2 exactly if no run of records from all zeros leads to it
+-- a block that is long enough is good exactly if a run of records from all zeros leads to it
 pub reached-exactly : (b : List ℕ) → SIZE ≤ length b → T (good b) ↔ Run-to (take SIZE b)
 reached-exactly b l =
     good-exactly laws

@@ -29,6 +29,7 @@ use Rattle.terms.specs.Limits.{isDepth}
 use Rattle.terms.specs.Operators.{operatorOf, codeOf, distanceOf, isOperator, orIdentity}
 use Rattle.terms.specs.Readings.{ProperRead, read-proper, operator-read, distance-fits, depth-fits}
 use Rattle.terms.specs.Held.{isNamed, isRule, isMark, isMarkable, isQuestion}
+use Rattle.terms.specs.Same.{kindOf}
 use Rattle.terms.specs.Refusals.{test, tested}
 use Rattle.terms.specs.Tests.{and-both, both-and}
 use Rattle.records.specs.declared.Command.{Command}
@@ -96,23 +97,18 @@ at-rows P f d (r ∷ rs) p w k = go (eqb k (r .number)) (at-rows P f d rs p (w .
     go true q = w .0
     go false q = q
 
--- a body of a kind is what its row makes of it
-decoded-rows :
-    (σ : Settings) (b : List ℕ) (rs : List Kind) (k : ℕ) →
-    decodedAs (tested (atKind (λ r. r .tests σ b) [] rs k)) (atKind (λ r. r .command b) Command.Reset rs k)
-    ≡ atKind (λ r. decodedAs (tested (r .tests σ b)) (r .command b)) (Decoded.Command Command.Reset) rs k
-decoded-rows σ b [] k = refl
-decoded-rows σ b (r ∷ rs) k = go (eqb k (r .number)) (decoded-rows σ b rs k)
+-- and what is made of two things said of a kind is made of them row by row
+pub at-two :
+    {A B C : Type 0} (F : A → B → C) (f : Kind → A) (g : Kind → B) (d : A) (e : B) (rs : List Kind) (k : ℕ) →
+    F (atKind f d rs k) (atKind g e rs k) ≡ atKind (λ r. F (f r) (g r)) (F d e) rs k
+at-two F f g d e [] k = refl
+at-two F f g d e (r ∷ rs) k = go (eqb k (r .number)) (at-two F f g d e rs k)
   where
     go :
-        (v : Bool) →
-        decodedAs (tested (atKind (λ r. r .tests σ b) [] rs k)) (atKind (λ r. r .command b) Command.Reset rs k)
-        ≡ atKind (λ r. decodedAs (tested (r .tests σ b)) (r .command b)) (Decoded.Command Command.Reset) rs k →
-        decodedAs (tested (cond v (r .tests σ b) (atKind (λ r. r .tests σ b) [] rs k))) (cond v (r .command b) (atKind (λ r. r .command b) Command.Reset rs k))
-        ≡ cond v (decodedAs (tested (r .tests σ b)) (r .command b))
-        (atKind (λ r. decodedAs (tested (r .tests σ b)) (r .command b)) (Decoded.Command Command.Reset) rs k)
-    go true e = refl
-    go false e = e
+        (v : Bool) → F (atKind f d rs k) (atKind g e rs k) ≡ atKind (λ r. F (f r) (g r)) (F d e) rs k →
+        F (cond v (f r) (atKind f d rs k)) (cond v (g r) (atKind g e rs k)) ≡ cond v (F (f r) (g r)) (atKind (λ r. F (f r) (g r)) (F d e) rs k)
+    go true h = refl
+    go false h = h
 
 -- ---- what is read is in range
 
@@ -158,7 +154,8 @@ rule-test b ρ h σ = operator-test (isNamed ρ) (operatorAt b) (Command.Add ρ)
 body-proper : (σ : Settings) (k : ℕ) (b : List ℕ) → ProperDecoded (decodeBody σ k b)
 unfolding bodyTests commandIn
 body-proper σ k b =
-    subst ProperDecoded (sym (decoded-rows σ b kinds k))
+    subst ProperDecoded
+    (sym (at-two (λ ts c. decodedAs (tested ts) c) (λ r. r .tests σ b) (λ r. r .command b) [] Command.Reset kinds k))
     (at-rows ProperDecoded (λ r. decodedAs (tested (r .tests σ b)) (r .command b)) (Decoded.Command Command.Reset) kinds tt (
       tt,
       (
@@ -221,13 +218,6 @@ isChange (Command.Put m) = isMark m
 isChange (Command.Take m) = isMark m
 isChange (Command.Ask q) = false
 
--- 01, Records: the kind of a rule
-abbrev pub ruleKind : Rule → ℕ
-ruleKind (Label o A B) = 2
-ruleKind (Both A B C) = 3
-ruleKind (Link o r s) = 4
-ruleKind (Via r A B) = 5
-
 -- 01, Records: an operator's code and n
 abbrev pub operatorBytes : Operator → List ℕ
 operatorBytes o = codeOf o ∷ bytes 4 (distanceOf o)
@@ -257,7 +247,7 @@ markBody (Linked a r b) z = a ∷ r ∷ b ∷ bytesOfSigned32 z
 -- the kind and the body of a change; a question has none here
 abbrev pub changeKind : Command → ℕ
 changeKind Command.Reset = 1
-changeKind (Command.Add ρ) = ruleKind ρ
+changeKind (Command.Add ρ) = kindOf ρ
 changeKind (Command.Put m) = putKind (m .atom)
 changeKind (Command.Take m) = takeKind (m .atom)
 changeKind (Command.Ask q) = 0
@@ -312,7 +302,7 @@ mark-in (Has a A) z f = ap (markWith (Has a A)) (depth-read z f)
 mark-in (Linked a r b) z f = ap (markWith (Linked a r b)) (depth-read z f)
 
 module _ (σ : Settings) where
-  rule-decodes : (ρ : Rule) → T (isRule ρ) → decodeBody σ (ruleKind ρ) (ruleBody ρ) ≡ Decoded.Command (Command.Add ρ)
+  rule-decodes : (ρ : Rule) → T (isRule ρ) → decodeBody σ (kindOf ρ) (ruleBody ρ) ≡ Decoded.Command (Command.Add ρ)
   unfolding bytes bodyTests commandIn
   rule-decodes (Label o A B) t =
       let h = and-both (isOperator o) (isNamed (Label o A B)) t in
@@ -358,7 +348,7 @@ record Fitting (k : ℕ) (b : List ℕ) : Type 0 where
   small : k < 65536
   short : length b + 2 < 65536
 
-fitting-rule : (ρ : Rule) → Fitting (ruleKind ρ) (ruleBody ρ)
+fitting-rule : (ρ : Rule) → Fitting (kindOf ρ) (ruleBody ρ)
 unfolding lengthsOf bytes
 fitting-rule (Label o A B) = record { allowed = tt; small = omega arith; short = omega arith }
 fitting-rule (Both A B C) = record { allowed = tt; small = omega arith; short = omega arith }

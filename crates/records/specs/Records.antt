@@ -125,7 +125,7 @@ kinds =
     ∷ kind 12 (Lengths.Exactly 4) (λ σ b. questionTests σ (spansQuestion b)) (λ b. Command.Ask (spansQuestion b))
     ∷ []
 
--- what f says of the row of a kind; d for a kind that the table has not
+-- what f says of the row of a kind; d for a kind that the table has not, which the frame refuses before its body is looked at
 abbrev pub atKind : {A : Type 0} → (Kind → A) → A → List Kind → ℕ → A
 atKind f d [] k = d
 atKind f d (r ∷ rs) k = cond (eqb k (r .number)) (f r) (atKind f d rs k)

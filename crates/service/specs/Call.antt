@@ -1,4 +1,5 @@
--- The record call, whole: from what is lent and the bytes left to the answer, the bytes used and what is lent afterwards.
+-- The record call, whole: from what is lent and the bytes left to the answer, the bytes used and what is lent afterwards;
+-- and the calls beside the records.
 use mathlib.Core.Bool.{Bool, not, _||_}
 use mathlib.Core.List.{List, [], _∷_, _++_}
 use Prim.Native.Nat.{ℕ}

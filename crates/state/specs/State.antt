@@ -9,7 +9,6 @@ use Rattle.terms.specs.Lists.{heldIn}
 use Rattle.state.specs.declared.State.{State}
 use Rattle.state.specs.declared.Listed.{Listed}
 use Rattle.terms.specs.Refusals.{Test, tested, onTested}
-use Rattle.state.specs.Changes.{emptyHeld}
 
 abbrev pub heldOf : State → Held
 heldOf s = heldIn (s .rules) (s .«rule_count») (s .marks) (s .«mark_count») (s .settings)
@@ -20,10 +19,6 @@ pub record Counts-in (s : State) : Type 0 where
   pub few-rules : s .«rule_count» ≤ RULES
   pub mark-places : length (s .marks) ≡ MARKS
   pub few-marks : s .«mark_count» ≤ MARKS
-
-pub record Empty-state (s : State) : Type 0 where
-  pub held : heldOf s ≡ emptyHeld
-  pub counts : Counts-in s
 
 -- what the tests came to, and the state then: `then` where none applies, else as it was
 pub record Listed-as (tests : List Test) (h then : Held) (r : Listed) : Type 0 where

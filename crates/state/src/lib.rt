@@ -3,10 +3,11 @@ ghost use mathlib.Core.Path.{_≡_};
 ghost use mathlib.Core.List.{_++_};
 ghost use Prim.Native.Nat.{_+_, _-_, _≤_, _<_};
 ghost use lib.ListN.{take, drop};
+ghost use Rattle.terms.specs.Limits.{RULES, MARKS};
 ghost use Rattle.terms.specs.Lists.{limits};
 ghost use Rattle.terms.specs.Refusals.{tested as testedBy};
-ghost use Rattle.state.specs.State.{Counts-in, Empty-state, heldOf, Listed-as};
-ghost use Rattle.state.specs.Changes.{ruleTests, putTests, takeTests, addRule, putMark, takeMark};
+ghost use Rattle.state.specs.State.{Counts-in, heldOf, Listed-as};
+ghost use Rattle.state.specs.Changes.{emptyHeld, ruleTests, putTests, takeTests, addRule, putMark, takeMark};
 ghost use Rattle.state.specs.Holding.{Holds};
 use terms::DEPTHS;
 use terms::MARKS;
@@ -48,7 +49,7 @@ fn without(marks: [Mark; MARKS], at: usize, count: usize) -> [Mark; MARKS]
 impl State {
     // A fresh state: all 128 rule places and all 256 mark places empty.
     pub fn empty() -> State
-        ensures { λ r. ⌜ Empty-state r ⌝ }
+        ensures { λ r. ⌜ Holds emptyHeld r ⌝ }
     {
         let place = RulePlace::EMPTY;
         let mark = Mark::EMPTY;
@@ -81,7 +82,7 @@ impl State {
 
     fn add_rule(self, rule: Rule) -> State
         requires { ⌜ Counts-in self ⌝ }
-        requires { ⌜ self .«rule_count» < 128 ⌝ }
+        requires { ⌜ self .«rule_count» < RULES ⌝ }
         ensures { λ r. ⌜ Holds (addRule (heldOf self) rule) r ⌝ }
     {
         let count = self.rule_count;
@@ -133,7 +134,7 @@ impl State {
 
     fn add_mark(self, mark: Mark) -> State
         requires { ⌜ Counts-in self ⌝ }
-        requires { ⌜ self .«mark_count» < 256 ⌝ }
+        requires { ⌜ self .«mark_count» < MARKS ⌝ }
         ensures { λ r. ⌜ Holds (putMark (heldOf self) mark) r ⌝ }
     {
         let count = self.mark_count;
@@ -185,7 +186,7 @@ impl State {
         }
     }
 
-    // What the lists and settings keep: few enough depths, each rule and mark in range, and none twice.
+    // What the lists and settings keep: few enough depths, each rule and mark in range, none twice, and settings that there are.
     pub fn within_limits(self) -> bool
         requires { ⌜ Counts-in self ⌝ }
         ensures { λ r. ⌜ r ≡ limits (heldOf self) ⌝ }

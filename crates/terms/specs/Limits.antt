@@ -39,7 +39,8 @@ CUTS = DEPTHS + DEPTHS
 abbrev pub INTERVALS : ℕ
 INTERVALS = CUTS + 1
 
--- 01, State and tables: the numbers of the label table, the bytes of the link table, the numbers of the span buffer
+-- 01, State and tables: the numbers of the label table, the bytes of the link table, the numbers of the span buffer; spans
+-- are one more than marked depths at most, two numbers each
 abbrev pub LABEL-ENTRIES : ℕ
 LABEL-ENTRIES = ITEMS * INTERVALS
 
@@ -47,7 +48,7 @@ abbrev pub LINK-ENTRIES : ℕ
 LINK-ENTRIES = ITEMS * ITEMS * INTERVALS
 
 abbrev pub SPAN-NUMBERS : ℕ
-SPAN-NUMBERS = INTERVALS + 1
+SPAN-NUMBERS = 2 * (DEPTHS + 1)
 
 -- 01, Operators: the largest n of WITHIN
 abbrev pub WITHIN-MOST : ℕ

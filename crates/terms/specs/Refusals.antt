@@ -1,4 +1,4 @@
--- 01's refusal table, as a list of tests, and the order of its numbers.
+-- The order of 01's refusals, rows of its table as tests, and what a list of tests comes to.
 use mathlib.Core.Bool.{Bool, cond}
 use mathlib.Core.List.{List, [], _∷_}
 use Prim.Native.Nat.{ℕ, suc}

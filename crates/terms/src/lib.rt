@@ -4,7 +4,7 @@ ghost use mathlib.Core.Bool.{cond};
 ghost use lib.Dec.{eqb};
 ghost use Rattle.terms.specs.Limits.{stated, isItem, isKind, isLeft, isConcluded, isMarked, isLabel, isDepth};
 ghost use Rattle.terms.specs.Refusals.{orElse};
-ghost use Rattle.terms.specs.declared.Tested.the-variants as Outcome;
+ghost use Rattle.terms.specs.declared.Tested.the-variants as Came;
 ghost use Rattle.terms.specs.Operators.{readIf, operatorOf, codeOf, distanceOf, isOperator, orIdentity, readTested};
 ghost use Rattle.terms.specs.Answers.{numberOf, valueOf};
 ghost use Rattle.terms.specs.Same.{operatorIn};
@@ -104,7 +104,7 @@ pub enum Tested {
 impl Tested {
     // One test: refused with the number unless it passes.
     pub fn unless(passes: bool, number: u8) -> Tested
-        ensures { λ r. ⌜ r ≡ cond passes Outcome.Passed (Outcome.Refused number) ⌝ }
+        ensures { λ r. ⌜ r ≡ cond passes Came.Passed (Came.Refused number) ⌝ }
     {
         if passes {
             return Tested::Passed;
