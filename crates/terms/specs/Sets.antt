@@ -95,28 +95,45 @@ module _ {M : Set} where
   member (least m l) = (m, l .member)
   member (no-least n) = let w = n .further (pos 0) in (w .0, w .1)
 
--- a set that is not empty gives what the table says, with or without ends
-pub operator-table : (op : Operator) (M : Set) (t : Top M) (b : Bottom M) (i : ℤ) → Given op M i ↔ Words op M t b i
-operator-table (Within n) M t b i = (
+-- 01, Operators: WITHIN n, of any set
+pub within-table : (n : ℕ) (M : Set) (i : ℤ) → Given (Within n) M i ↔ WithinWords n M i
+within-table n M i = (
   λ g. record { j = g .j; k = g .k; j-in = g .j-in; k-in = g .k-in; from = g .gives .0; to = g .gives .1; distance = g .gives .2 .near },
   λ w. record { j = w .j; k = w .k; j-in = w .j-in; k-in = w .k-in; gives = (w .from, w .to, record { near = w .distance }) },
 )
-operator-table Between M t b i = (
+
+-- 01, Operators: BETWEEN, from the least of M to the greatest
+pub between-table : (M : Set) (t : Top M) (b : Bottom M) (i : ℤ) → Given Between M i ↔ (FromTop t i × ToBottom b i)
+between-table M t b i = (
   λ g. (after t (g .j) i (g .j-in) (g .gives .0), before b (g .k) i (g .k-in) (g .gives .1)),
   λ w. let u = from-top t i (w .0) in let v = to-bottom b i (w .1) in record { j = u .0; k = v .0; j-in = u .1; k-in = v .1; gives = (u .2, v .2) },
 )
-operator-table Above M t b i = (
+
+-- 01, Operators: ABOVE, all depths up to the greatest of M
+pub above-table : (M : Set) (b : Bottom M) (i : ℤ) → Given Above M i ↔ ToBottom b i
+above-table M b i = (
   λ g. before b (g .k) i (g .k-in) (g .gives),
   λ w. let v = to-bottom b i w in record { j = v .0; k = v .0; j-in = v .1; k-in = v .1; gives = v .2 },
 )
-operator-table Below M t b i = (
+
+-- 01, Operators: BELOW, all depths from the least of M on
+pub below-table : (M : Set) (t : Top M) (i : ℤ) → Given Below M i ↔ FromTop t i
+below-table M t i = (
   λ g. after t (g .j) i (g .j-in) (g .gives),
   λ w. let u = from-top t i w in record { j = u .0; k = u .0; j-in = u .1; k-in = u .1; gives = u .2 },
 )
-operator-table Anywhere M t b i = (
-  λ g. tt,
-  λ w. let u = member t in record { j = u .0; k = u .0; j-in = u .1; k-in = u .1; gives = tt },
-)
+
+-- 01, Operators: ANYWHERE, all integers exactly if M is not empty
+pub anywhere-table : (M : Set) (i : ℤ) → Given Anywhere M i ↔ (j : ℤ) × M j
+anywhere-table M i = (λ g. (g .j, g .j-in), λ m. record { j = m .0; k = m .0; j-in = m .1; k-in = m .1; gives = tt })
+
+-- 01, Operators: the whole table, of a set that is not empty, with or without ends
+pub operator-table : (op : Operator) (M : Set) (t : Top M) (b : Bottom M) (i : ℤ) → Given op M i ↔ Words op M t b i
+operator-table (Within n) M t b i = within-table n M i
+operator-table Between M t b i = between-table M t b i
+operator-table Above M t b i = above-table M b i
+operator-table Below M t b i = below-table M t i
+operator-table Anywhere M t b i = (λ g. tt, λ w. anywhere-table M i .1 (member t))
 
 -- 01, Operators: empty M gives the empty set
 pub empty-gives-none : (op : Operator) (M : Set) → ((j : ℤ) → M j → ⊥) → (i : ℤ) → Given op M i → ⊥
