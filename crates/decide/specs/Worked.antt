@@ -1,8 +1,9 @@
 -- The cases that 01 marks P: one table, one theorem, about the definition by interpretations over all integers. Assumes nothing.
 use mathlib.Core.Path.{_≡_, refl, sym, subst}
 use mathlib.Core.Logic.{_⊎_, ⊎-elim}
-use mathlib.Core.List.{List, [], _∷_, List·Memᴰ·cases-cons, List·Memᴰ·not-nil}
-use Prim.Native.Nat.{ℕ}
+use mathlib.Core.Bool.{Bool}
+use mathlib.Core.List.{List, [], _∷_, map, List·Memᴰ·cases-cons, List·Memᴰ·not-nil}
+use Prim.Native.Nat.{ℕ, zero, suc}
 use lib.Dec.{T}
 use lib.IntN.{ℤ, pos, negsuc}
 use Rattle.terms.specs.declared.Operator.{Operator}
@@ -11,9 +12,10 @@ use Rattle.terms.specs.declared.Rule.{Rule}
 use Rattle.terms.specs.declared.Rule.the-variants.{Label, Via}
 use Rattle.terms.specs.declared.Atom.the-variants.{Has, Linked}
 use Rattle.terms.specs.declared.Mark.{Mark}
-use Rattle.terms.specs.Limits.{EVERY, NEVER, NO-TOP, NO-BOTTOM}
+use Rattle.terms.specs.Limits.{ITEMS, EVERY, NEVER, NO-TOP, NO-BOTTOM}
 use Rattle.terms.specs.declared.Question.{Question}
 use Rattle.terms.specs.declared.Question.the-variants as Question
+use Rattle.terms.specs.Tests.{and-both}
 use Rattle.terms.specs.Held.{_∈_, Held, freshSettings}
 use Rattle.terms.specs.Lists.{some, every, once, depthCount, limits}
 use Rattle.terms.specs.Spans.{Run, run}
@@ -50,6 +52,21 @@ gives o ms rs = on (Label o 1 2 ∷ []) ms (Question.Spans 0 2) (Answered (Spans
 abbrev pub contrary : List Rule
 contrary = Label (Within 1) EVERY 1 ∷ Label (Within 1) 1 NEVER ∷ []
 
+-- no marks, no rules: EVERY yes and label 1 no, of each item below n
+abbrev pub nothing : ℕ → List Case
+nothing zero = []
+nothing (suc a) =
+    on [] [] (Question.Holds (Has a EVERY) (pos 0)) (Answered Yes)
+    ∷ on [] [] (Question.Spans a EVERY) (Answered (Spans (run NO-TOP NO-BOTTOM ∷ [])))
+    ∷ on [] [] (Question.Holds (Has a 1) (pos 0)) (Answered No)
+    ∷ on [] [] (Question.Spans a 1) (Answered (Spans []))
+    ∷ nothing a
+
+-- link 0 from 0 to 1 at 10 and VIA 0 2 to 3, with label 2 on item 1 at this depth
+abbrev pub joined : ℤ → Question → Reply → Case
+joined i = on (Via 0 2 3 ∷ []) (link 0 0 1 (pos 10) ∷ label 1 2 i ∷ [])
+
+-- 01, Cases at the edges: those marked P, in its order but for the rows of every item, which stand last
 abbrev pub cases : List Case
 cases =
     gives (Within 3) four (run (negsuc 2) (pos 0) ∷ run (pos 4) (pos 4) ∷ [])
@@ -59,74 +76,46 @@ cases =
     ∷ gives Below four (run (negsuc 2) NO-BOTTOM ∷ [])
     ∷ gives (Within 20) two (run (pos 104) (pos 123) ∷ [])
     ∷ gives (Within 19) two (run (pos 104) (pos 104) ∷ run (pos 123) (pos 123) ∷ [])
-    ∷ on [] [] (Question.Holds (Has 0 EVERY) (pos 0)) (Answered Yes)
-    ∷ on [] [] (Question.Spans 0 EVERY) (Answered (Spans (run NO-TOP NO-BOTTOM ∷ [])))
-    ∷ on [] [] (Question.Holds (Has 0 1) (pos 0)) (Answered No)
-    ∷ on [] [] (Question.Spans 0 1) (Answered (Spans []))
     ∷ on contrary [] (Question.Holds (Has 0 1) (pos 0)) (Contradiction 0)
     ∷ on contrary [] (Question.Spans 0 1) (Contradiction 0)
-    ∷ on (Via 0 2 3 ∷ []) (link 0 0 1 (pos 10) ∷ label 1 2 (pos 10) ∷ []) (Question.Holds (Has 0 3) (pos 10)) (Answered Yes)
-    ∷ on (Via 0 2 3 ∷ []) (link 0 0 1 (pos 10) ∷ label 1 2 (pos 11) ∷ []) (Question.Holds (Has 0 3) (pos 11)) (Answered No)
-    ∷ on (Via 0 2 3 ∷ []) (link 0 0 1 (pos 10) ∷ label 1 2 (pos 11) ∷ []) (Question.Spans 0 3) (Answered (Spans []))
-    ∷ []
+    ∷ joined (pos 10) (Question.Holds (Has 0 3) (pos 10)) (Answered Yes)
+    ∷ joined (pos 10) (Question.Holds (Has 0 3) (pos 11)) (Answered No)
+    ∷ joined (pos 10) (Question.Spans 0 3) (Answered (Spans (run (pos 10) (pos 10) ∷ [])))
+    ∷ joined (pos 11) (Question.Holds (Has 0 3) (pos 11)) (Answered No)
+    ∷ joined (pos 11) (Question.Spans 0 3) (Answered (Spans []))
+    ∷ nothing ITEMS
 
 -- ---- computed, and so decided
 
-abbrev Checked : List Case → Type 0
-Checked [] = Unit {0}
-Checked (c ∷ cs) = T (limits (c .held)) × (answer (c .held) (c .question) ≡ c .reply) × Checked cs
+abbrev within : Case → Bool
+within c = limits (c .held)
+
+abbrev computed : Case → Reply
+computed c = answer (c .held) (c .question)
+
+abbrev expected : Case → Reply
+expected c = c .reply
+
+pub record Checked (cs : List Case) : Type 0 where
+  pub kept : T (every within cs)
+  pub same : map computed cs ≡ map expected cs
 
 checked : Checked cases
 unfolding limits every once some depthCount answer model runs
-checked = (
-  tt,
-  refl,
-  (
-    tt,
-    refl,
-    (
-      tt,
-      refl,
-      (
-        tt,
-        refl,
-        (
-          tt,
-          refl,
-          (
-            tt,
-            refl,
-            (
-              tt,
-              refl,
-              (
-                tt,
-                refl,
-                (
-                  tt,
-                  refl,
-                  (
-                    tt,
-                    refl,
-                    (tt, refl, (tt, refl, (tt, refl, (tt, refl, (tt, refl, (tt, refl, tt)))))),
-                  ),
-                ),
-              ),
-            ),
-          ),
-        ),
-      ),
-    ),
-  ),
-)
+checked = record { kept = tt; same = refl }
 
 each : (cs : List Case) → Checked cs → (c : Case) → c ∈ cs → Decides (c .held) (c .question) (c .reply)
+unfolding every
 each [] t c m = absurd (List·Memᴰ·not-nil m)
 each (k ∷ cs) t c m =
+    let w = and-both (within k) (every within cs) (t .kept) in
+    let s = t .same in
+    let e : computed k ≡ k .reply = cc in
+    let f : map computed cs ≡ map expected cs = cc in
     ⊎-elim
-    (λ e. subst (λ (v : Case). Decides (v .held) (v .question) (v .reply)) (sym e)
-    (subst (λ r. Decides (k .held) (k .question) r) (t .1) (answer-decides (k .held) (in-range (k .held) (limited (k .held) (t .0))) (k .question))))
-    (λ n. each cs (t .2) c n)
+    (λ d. subst (λ (v : Case). Decides (v .held) (v .question) (v .reply)) (sym d)
+    (subst (λ r. Decides (k .held) (k .question) r) e (answer-decides (k .held) (in-range (k .held) (limited (k .held) (w .0))) (k .question))))
+    (λ n. each cs (record { kept = w .1; same = f }) c n)
     (List·Memᴰ·cases-cons m)
 
 pub worked-cases : (c : Case) → c ∈ cases → Decides (c .held) (c .question) (c .reply)
