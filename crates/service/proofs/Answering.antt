@@ -104,7 +104,7 @@ module _
   contradictory item e = as-replied (Contradiction item) (by-tables ∙ clash-item found said item (clash ∙ e)) spans (Answer.Contradiction item) refl refl
 
   pub plain :
-      c ≡ Clash.Nowhere → (cuts : List ℤ) (n : ℕ) → Now-cuts (cutsOf h) cuts n → (spans′ : List ℤ) (a : Answer) →
+      c ≡ Clash.Nowhere → {was : List ℤ} (cuts : List ℤ) (n : ℕ) → Now-cuts (cutsOf h) was cuts n → (spans′ : List ℤ) (a : Answer) →
       Read-off (take n cuts) l′ k′ q spans spans′ a → Answered-as h q l k spans l′ k′ spans′ a
   plain e cuts n N spans′ a R =
       let same : tableVerdict (take n cuts) l′ k′ q ≡ said =

@@ -44,13 +44,13 @@ module _ (s : State) (H : Held-state s) where
   }
 
   -- the cuts that were filled in
-  pub line-in : {line : List ℤ} {r : ℕ} → Now-cuts (cutsOf (heldOf s)) line r → Cuts-in line r
+  pub line-in : {was line : List ℤ} {r : ℕ} → Now-cuts (cutsOf (heldOf s)) was line r → Cuts-in line r
   line-in w = held-cuts (heldOf s .marks) w few
 
-  pub line-low : {line : List ℤ} {r : ℕ} → Now-cuts (cutsOf (heldOf s)) line r → Low-cuts line r
+  pub line-low : {was line : List ℤ} {r : ℕ} → Now-cuts (cutsOf (heldOf s)) was line r → Low-cuts line r
   line-low w =
       low-cuts (heldOf s .marks)
       (λ (m : Mark) n. and-both (isMarkable (m .atom)) (isDepth (m .depth)) (every-in isMark (heldOf s .marks) (kept .marks) m n) .1) w
 
-  pub line-few : {line : List ℤ} {r : ℕ} → Now-cuts (cutsOf (heldOf s)) line r → length (take r line) ≤ CUTS
+  pub line-few : {was line : List ℤ} {r : ℕ} → Now-cuts (cutsOf (heldOf s)) was line r → length (take r line) ≤ CUTS
   line-few w = omega (arith, ap length (w .list), few)

@@ -103,7 +103,7 @@ fn lent_state(block: &[u8], labels: usize, links: usize, spans: usize) -> Lent
 fn derive(state: State, labels: &mut [u64], links: &mut [u8], cuts: &mut [i32; CUTS]) -> usize
     requires { ⌜ Held-state state × (LABEL-ENTRIES ≤ length (now labels)) × (LINK-ENTRIES ≤ length (now links)) × (length (now cuts) ≡ CUTS) ⌝ }
     ensures { λ r. ⌜ Tables-derived (heldOf state) (now (labels .entry)) (now (links .entry)) (now (labels .exit)) (now (links .exit))
-        (now (cuts .exit)) r ⌝ }
+        (now (cuts .entry)) (now (cuts .exit)) r ⌝ }
 {
     let places = state.rules;
     let marks = state.marks;
