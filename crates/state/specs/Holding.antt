@@ -1,10 +1,30 @@
 -- What a state holds after a step of a list operation.
-use mathlib.Core.Path.{_≡_}
-use Rattle.terms.specs.Held.{Held}
+use mathlib.Core.Path.{_≡_, refl, sym, subst}
+use native.Mathlib.Omega.{arith}
+use lib.ListN.{length-replicate}
+use Rattle.terms.specs.Limits.{RULES, MARKS}
+use Rattle.terms.specs.Held.{Held, emptyMark, emptyPlace, rulesIn}
 use Rattle.state.specs.declared.State.{State}
-use Rattle.state.specs.State.{heldOf, Counts-in}
+use Rattle.state.specs.State.{heldOf, emptyState, Counts-in}
+use Rattle.state.specs.Changes.{emptyHeld}
 
 -- the state holds h
 pub record Holds (h : Held) (s : State) : Type 0 where
   pub held : heldOf s ≡ h
   pub counts : Counts-in s
+
+-- a fresh state holds nothing
+empty-holds : Holds emptyHeld emptyState
+unfolding emptyState rulesIn
+empty-holds = record {
+  held = refl;
+  counts = record {
+    rule-places = length-replicate RULES emptyPlace;
+    few-rules = omega arith;
+    mark-places = length-replicate MARKS emptyMark;
+    few-marks = omega arith;
+  };
+}
+
+pub fresh-holds : {s : State} → s ≡ emptyState → Holds emptyHeld s
+fresh-holds e = subst (Holds emptyHeld) (sym e) empty-holds

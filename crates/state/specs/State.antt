@@ -2,9 +2,9 @@
 use mathlib.Core.Path.{_≡_}
 use mathlib.Core.List.{List}
 use Prim.Native.Nat.{_≤_}
-use lib.ListN.{length}
+use lib.ListN.{length, replicate}
 use Rattle.terms.specs.Limits.{RULES, MARKS}
-use Rattle.terms.specs.Held.{Held}
+use Rattle.terms.specs.Held.{Held, emptyMark, emptyPlace, freshSettings}
 use Rattle.terms.specs.Lists.{heldIn}
 use Rattle.state.specs.declared.State.{State}
 use Rattle.state.specs.declared.Listed.{Listed}
@@ -12,6 +12,16 @@ use Rattle.terms.specs.Refusals.{Test, tested, onTested}
 
 abbrev pub heldOf : State → Held
 heldOf s = heldIn (s .rules) (s .«rule_count») (s .marks) (s .«mark_count») (s .settings)
+
+-- 01, State and tables: a fresh state, all 128 rule places and all 256 mark places empty
+unfoldable pub emptyState : State
+emptyState = record {
+  rules = replicate RULES emptyPlace;
+  «rule_count» = 0;
+  marks = replicate MARKS emptyMark;
+  «mark_count» = 0;
+  settings = freshSettings;
+}
 
 -- the counts are within the arrays
 pub record Counts-in (s : State) : Type 0 where

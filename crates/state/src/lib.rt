@@ -6,8 +6,8 @@ ghost use lib.ListN.{take, drop};
 ghost use Rattle.terms.specs.Limits.{RULES, MARKS};
 ghost use Rattle.terms.specs.Lists.{limits};
 ghost use Rattle.terms.specs.Refusals.{tested as testedBy};
-ghost use Rattle.state.specs.State.{Counts-in, heldOf, Listed-as};
-ghost use Rattle.state.specs.Changes.{emptyHeld, ruleTests, putTests, takeTests, addRule, putMark, takeMark};
+ghost use Rattle.state.specs.State.{Counts-in, heldOf, emptyState, Listed-as};
+ghost use Rattle.state.specs.Changes.{ruleTests, putTests, takeTests, addRule, putMark, takeMark};
 ghost use Rattle.state.specs.Holding.{Holds};
 use terms::DEPTHS;
 use terms::MARKS;
@@ -49,7 +49,7 @@ fn without(marks: [Mark; MARKS], at: usize, count: usize) -> [Mark; MARKS]
 impl State {
     // A fresh state: all 128 rule places and all 256 mark places empty.
     pub fn empty() -> State
-        ensures { λ r. ⌜ Holds emptyHeld r ⌝ }
+        ensures { λ r. ⌜ r ≡ emptyState ⌝ }
     {
         let place = RulePlace::EMPTY;
         let mark = Mark::EMPTY;

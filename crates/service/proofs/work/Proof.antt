@@ -5,6 +5,7 @@ use lib.Dec.{T}
 use lib.ListN.{drop}
 use Rattle.terms.specs.Held.{Held}
 use Rattle.state.specs.State.{heldOf}
+use Rattle.state.specs.Holding.{fresh-holds}
 use Rattle.block.specs.Block.{SIZE, encode}
 use Rattle.records.specs.declared.Command.{Command}
 use Rattle.records.specs.Proper.{Proper}
@@ -20,7 +21,9 @@ empty-requires : tie.Need-empty-requires
 empty-requires c κs = search needs
 
 store-requires : tie.Need-store-requires
-store-requires c κs = search needs
+store-requires c κs =
+    let start = c .before .before .before .before .before .before .before .before in
+    (fresh-holds (c .empty .ensures) .counts, start .pre .2 .block)
 
 done-requires : tie.Need-done-requires
 done-requires c κs = search needs
@@ -74,7 +77,7 @@ returns : tie.Need-returns
 returns c =
     let at-enum-told = c .before .before .before .before .before .before in
     let start = at-enum-told .before .before .before .before .before .before in
-    let emptied = ap (λ (x : Held). encode x ++ drop SIZE (start .args .block .now)) (c .before .before .before .before .empty .ensures .held) in
+    let emptied = ap (λ (x : Held). encode x ++ drop SIZE (start .args .block .now)) (fresh-holds (c .before .before .before .before .empty .ensures) .held) in
     as-command (start .args .block .now) (start .args .labels .now) (start .args .links .now) (start .args .spans .now)
     (heldOf (start .args .state)) (start .args .body .now) (start .args .used) (start .args .command) _
     (at-enum-told .enum-told .given .1)
