@@ -1,6 +1,7 @@
 /*
  * A host program: lends its memory to the library, feeds it a small section record by record and prints what it says.
- * The section is the worked example of the specification, and then a question beside the records.
+ * The section is the worked example of the specification, then a question beside the records, and calls with null pointers
+ * where the length is 0.
  */
 #include <harmikse.h>
 
@@ -96,6 +97,26 @@ static void print_result(uint32_t result)
     printf("\n");
 }
 
+/* A pointer whose length is 0 may be null: no input is the end, and no memory is too little. */
+static int lend_nothing(void)
+{
+    uint64_t used = 1;
+    uint32_t result = harmikse_record(block, sizeof block, labels, HARMIKSE_LABEL_ENTRIES, links, sizeof links, spans,
+                                      HARMIKSE_SPAN_NUMBERS, NULL, 0, &used);
+
+    printf("no input: ");
+    print_result(result);
+    if (used != 0)
+        return 1;
+    used = 1;
+    result = harmikse_record(NULL, 0, NULL, 0, NULL, 0, NULL, 0, stream, stream_len, &used);
+    printf("no memory: ");
+    print_result(result);
+    printf("no memory beside the records: ");
+    print_result(harmikse_spans(NULL, 0, NULL, 0, NULL, 0, NULL, 0, 0, 0));
+    return used != 0;
+}
+
 static void write_section(void)
 {
     add_within(11, 1, 1);
@@ -130,5 +151,5 @@ int main(void)
     printf("beside the records: ");
     print_result(harmikse_spans(block, sizeof block, labels, HARMIKSE_LABEL_ENTRIES, links, sizeof links, spans,
                                 HARMIKSE_SPAN_NUMBERS, 0, 0));
-    return 0;
+    return lend_nothing();
 }

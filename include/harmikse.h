@@ -14,8 +14,8 @@
  * written. What tables and span buffer hold before a call plays no part; they need no clearing.
  *
  * Ownership: all memory stays the caller's, and is used during the call alone. Of block, labels, links, spans and used
- * none may overlap another, and none may overlap the input. Pointers are not null and aligned for their type, also where
- * a length is 0; nothing is read or written there then.
+ * none may overlap another, and none may overlap the input. Pointers are aligned for their type. A pointer may be NULL
+ * where its length is 0, and nowhere else: nothing is read or written there then. used is never NULL.
  *
  * Threads: calls on different memory are independent and may run at once. Memory that is lent to a call belongs to that
  * call until it returns; a block belongs to one call at a time. harmikse_spans only reads the block, so calls of it may
@@ -85,6 +85,7 @@ enum harmikse_refusal {
 /*
  * Takes one record from the start of the input, where input is all the bytes that are left, and says in *used how many
  * bytes it used: go on with input + *used. 0 bytes are used for the refusals 1 and 2 and for end, all that is left for 3.
+ * Where no byte is left input may be NULL.
  */
 uint32_t harmikse_record(uint8_t *block, size_t block_len,
                          uint64_t *labels, size_t labels_len,

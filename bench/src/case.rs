@@ -6,7 +6,7 @@ use model::frame::bytes;
 use model::held::Held;
 use model::service::{Lent, Memory};
 use model::terms::{Answer, Record};
-use panel::Numbers;
+use panel::{Empty, Numbers};
 
 /// What is measured.
 #[derive(Clone, Copy, PartialEq)]
@@ -62,7 +62,7 @@ impl Bench {
     }
 
     fn record(&mut self, input: &[u8]) -> Numbers {
-        panel::record(&mut self.memory, &Lent::EXACT, input).0
+        panel::record(&mut self.memory, &Lent::EXACT, input, Empty::Start).0
     }
 
     /// Handles one record that has to be done.

@@ -14,6 +14,13 @@ pub const WHOLE: Lent = Lent {
     spans: 256,
 };
 
+const NOTHING: Lent = Lent {
+    block: 0,
+    labels: 0,
+    links: 0,
+    spans: 0,
+};
+
 fn random_bytes(dice: &mut Dice, count: u64) -> Vec<u8> {
     (0..count).map(|_| dice.word() as u8).collect()
 }
@@ -47,7 +54,7 @@ pub fn with_rest(dice: &mut Dice, mut bytes: Vec<u8>) -> Vec<u8> {
     bytes
 }
 
-/// Lengths that are enough, or now and then one that is short.
+/// Lengths that are enough, or now and then one that is short, or nothing at all.
 pub fn lengths(source: &mut Source) -> Lent {
     let short = source.dice.percent(source.plan.short);
     let dice = &mut source.dice;
@@ -60,6 +67,7 @@ pub fn lengths(source: &mut Source) -> Lent {
     let which = dice.below(4) as usize;
     let length = dice.pick(&[0, 1, enough[which] / 2, enough[which] - 1]);
     match which {
+        _ if dice.percent(10) => lent = NOTHING,
         0 => lent.block = length,
         1 => lent.labels = length,
         2 => lent.links = length,

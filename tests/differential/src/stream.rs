@@ -9,12 +9,20 @@ use model::block::{decode, encode, SIZE};
 use model::frame::bytes;
 use model::service::{self, Lent, Memory};
 use model::terms::Answer;
-use panel::Numbers;
+use panel::{Empty, Numbers};
 
 #[derive(Debug)]
 enum Call {
     Record(Vec<u8>),
     Spans(u32, u32),
+}
+
+impl Call {
+    /// Whether a length that is lent is 0.
+    fn lends_nothing(&self, lent: &Lent) -> bool {
+        let no_input = matches!(self, Call::Record(input) if input.is_empty());
+        no_input || [lent.block, lent.labels, lent.links, lent.spans].contains(&0)
+    }
 }
 
 pub struct Stream {
@@ -54,11 +62,14 @@ impl Stream {
         let call = self.call();
         let kept = self.spoiled();
         let lent = lengths(&mut self.source);
+        let empty = self.source.dice.pick(&[Empty::Null, Empty::Start]);
         let before = self.model.block.clone();
-        let answer = self.compare(&call, &lent).map_err(|difference| {
-            format!("call {number}: {difference}\n{lent:?}\n{call:x?}\nblock before: {before:x?}")
+        let answer = self.compare(&call, &lent, empty).map_err(|difference| {
+            let lent = format!("{lent:?}, {empty:?}");
+            format!("call {number}: {difference}\n{lent}\n{call:x?}\nblock before: {before:x?}")
         })?;
         tally.count(answer);
+        tally.nulls += u64::from(empty == Empty::Null && call.lends_nothing(&lent));
         if let Some(block) = kept {
             self.model.block.clone_from(&block);
             self.real.block.clone_from(&block);
@@ -96,15 +107,16 @@ impl Stream {
     }
 
     /// Makes the call on both sides and compares answer, bytes used and all memory.
-    fn compare(&mut self, call: &Call, lent: &Lent) -> Result<Answer, String> {
+    fn compare(&mut self, call: &Call, lent: &Lent, empty: Empty) -> Result<Answer, String> {
         let (expected, used, returned) = match call {
             Call::Record(input) => {
                 let (answer, used) = service::record(&mut self.model, lent, input);
-                (answer, used, panel::record(&mut self.real, lent, input))
+                let returned = panel::record(&mut self.real, lent, input, empty);
+                (answer, used, returned)
             }
             Call::Spans(item, label) => {
                 let answer = service::spans_of(&mut self.model, lent, *item, *label);
-                let returned = panel::spans(&mut self.real, lent, *item, *label);
+                let returned = panel::spans(&mut self.real, lent, *item, *label, empty);
                 (answer, 0, (returned, 0))
             }
         };

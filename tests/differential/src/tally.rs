@@ -16,6 +16,8 @@ const NAMES: [&str; 7] = [
 pub struct Tally {
     pub streams: u64,
     pub calls: u64,
+    /// Calls with a null pointer, whose length is 0.
+    pub nulls: u64,
     answers: [u64; 7],
     refusals: [u64; 13],
 }
@@ -35,7 +37,8 @@ impl Tally {
         let answers: Vec<_> = answers.map(|(name, n)| format!("{name} {n}")).collect();
         let refusals = self.refusals.iter().enumerate().skip(1);
         let refusals: Vec<_> = refusals.map(|(no, n)| format!("{no}: {n}")).collect();
-        println!("{} streams, {} calls", self.streams, self.calls);
+        let (streams, calls, nulls) = (self.streams, self.calls, self.nulls);
+        println!("{streams} streams, {calls} calls, {nulls} with a null pointer");
         println!("answers: {}", answers.join(", "));
         println!("refusals: {}", refusals.join(", "));
     }

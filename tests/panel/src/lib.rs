@@ -31,21 +31,38 @@ extern "C" {
     ) -> u32;
 }
 
+/// What goes with a length of 0: a null pointer, or one to where the memory would start.
+#[derive(Clone, Copy, Debug, PartialEq, Eq)]
+pub enum Empty {
+    Null,
+    Start,
+}
+
+impl Empty {
+    fn pointer<T>(self, start: *const T, length: usize) -> *mut T {
+        match self {
+            Empty::Null if length == 0 => std::ptr::null_mut(),
+            _ => start.cast_mut(),
+        }
+    }
+}
+
 /// Calls a function whose first arguments are the lent memory.
 macro_rules! lend {
-    ($function:ident, $memory:ident, $lent:ident, $($rest:expr),+) => {{
+    ($function:ident, $memory:ident, $lent:ident, $empty:ident, $($rest:expr),+) => {{
         assert!($lent.block <= $memory.block.len() && $lent.labels <= $memory.labels.len());
         assert!($lent.links <= $memory.links.len() && $lent.spans <= $memory.spans.len());
-        // SAFETY: every length was checked against its array, and the arrays are apart.
+        // SAFETY: every length was checked against its array, and the arrays are apart. Where a
+        // length is 0 nothing is read or written.
         unsafe {
             $function(
-                $memory.block.as_mut_ptr(),
+                $empty.pointer($memory.block.as_mut_ptr(), $lent.block),
                 $lent.block,
-                $memory.labels.as_mut_ptr(),
+                $empty.pointer($memory.labels.as_mut_ptr(), $lent.labels),
                 $lent.labels,
-                $memory.links.as_mut_ptr(),
+                $empty.pointer($memory.links.as_mut_ptr(), $lent.links),
                 $lent.links,
-                $memory.spans.as_mut_ptr(),
+                $empty.pointer($memory.spans.as_mut_ptr(), $lent.spans),
                 $lent.spans,
                 $($rest),+
             )
@@ -61,14 +78,15 @@ fn numbers(returned: u32) -> Numbers {
 }
 
 /// Handles one record; the answer and the bytes used.
-pub fn record(memory: &mut Memory, lent: &Lent, input: &[u8]) -> (Numbers, u64) {
+pub fn record(memory: &mut Memory, lent: &Lent, input: &[u8], empty: Empty) -> (Numbers, u64) {
     let mut used = u64::MAX;
-    let start = input.as_ptr();
-    let returned = lend!(harmikse_record, memory, lent, start, input.len(), &mut used);
+    let size = input.len();
+    let start = empty.pointer(input.as_ptr(), size);
+    let returned = lend!(harmikse_record, memory, lent, empty, start, size, &mut used);
     (numbers(returned), used)
 }
 
 /// The call beside the records.
-pub fn spans(memory: &mut Memory, lent: &Lent, item: u32, label: u32) -> Numbers {
-    numbers(lend!(harmikse_spans, memory, lent, item, label))
+pub fn spans(memory: &mut Memory, lent: &Lent, item: u32, label: u32, empty: Empty) -> Numbers {
+    numbers(lend!(harmikse_spans, memory, lent, empty, item, label))
 }
