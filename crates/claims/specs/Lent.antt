@@ -13,6 +13,7 @@ use Rattle.terms.specs.declared.Question.{Question}
 use Rattle.terms.specs.declared.Question.the-variants as Question
 use Rattle.terms.specs.declared.Tested.{Tested}
 use Rattle.terms.specs.declared.Tested.the-variants as Tested
+use Rattle.terms.specs.Answers.{pairCount}
 use Rattle.terms.specs.Tests.{and-both, of-true}
 use Rattle.terms.specs.Limits.{LABEL-ENTRIES, LINK-ENTRIES}
 use Rattle.terms.specs.Refusals.{test, tested, onTested}
@@ -61,16 +62,6 @@ untouched n old = record { same-length = refl; same-tail = refl }
 
 written : {A : Type 0} (n : ℕ) (p old : List A) → length p ≡ n → n ≤ length old → Written-in n old (p ++ drop n old)
 written n p old e l = record { same-length = length-append p (drop n old) ∙ omega (arith, e, length-drop n old); same-tail = drop-at p (drop n old) n e }
-
--- 01, Records: how many pairs an answer says that it wrote
-abbrev pub pairCount : Answer → ℕ
-pairCount Answer.Done = 0
-pairCount Answer.Yes = 0
-pairCount Answer.No = 0
-pairCount (Answer.Contradiction a) = 0
-pairCount (Answer.Spans n) = n
-pairCount Answer.End = 0
-pairCount (Answer.Refused n) = 0
 
 -- 01, State and tables: lent memory longer than this, the block included, keeps its tail; the pairs fit the span buffer, and behind them it is unchanged
 pub record Lent-kept (a : Answer) (m after : Buffers) : Type 0 where

@@ -2,11 +2,12 @@
 use mathlib.Core.Path.{_≡_, refl, ap}
 use mathlib.Core.Bool.{cond}
 use mathlib.Core.List.{List, [], _++_}
-use Prim.Native.Nat.{ℕ, _+_, _*_, min}
+use Prim.Native.Nat.{ℕ, _+_, min}
 use lib.IntN.{ℤ}
 use lib.ListN.{length, take, drop}
 use Rattle.terms.specs.declared.Answer.{Answer}
 use Rattle.terms.specs.declared.Answer.the-variants as Answer
+use Rattle.terms.specs.Answers.{pairsOf}
 use Rattle.terms.specs.Held.{Held}
 use Rattle.block.specs.Block.{SIZE}
 use Rattle.records.specs.Records.{parse}
@@ -81,16 +82,6 @@ fed c s = record {
   links = length (c .links);
   spans = length (c .spans);
 }
-
--- the pairs that an answer says it wrote
-abbrev pub pairsOf : Answer → List ℤ → List ℤ
-pairsOf Answer.Done s = []
-pairsOf Answer.Yes s = []
-pairsOf Answer.No s = []
-pairsOf (Answer.Contradiction a) s = []
-pairsOf (Answer.Spans n) s = take (2 * n) s
-pairsOf Answer.End s = []
-pairsOf (Answer.Refused n) s = []
 
 abbrev pub resultOf : After → Result
 resultOf a = record { answer = a .answer; used = a .used; pairs = pairsOf (a .answer) (a .buffers .spans) }

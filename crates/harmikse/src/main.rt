@@ -1,17 +1,23 @@
 // The service over standard input: a line for each record.
 ghost use mathlib.Core.Path.{_≡_};
-ghost use Prim.Native.Nat.{_+_, _*_, _≤_, _<_};
-ghost use lib.ListN.{length};
+ghost use mathlib.Core.Bool.{true, false};
+ghost use Prim.Native.Nat.{_≤_, _<_};
+ghost use lib.ListN.{length, take};
+ghost use Rattle.terms.specs.Answers.{pairCount};
 ghost use Rattle.terms.specs.Limits.{SPAN-NUMBERS};
+ghost use Rattle.service.specs.Call.{lent};
+ghost use Rattle.lines.specs.Lines.{lineText};
+ghost use Rattle.harmikse.specs.Program.{LIMIT, goesOn, Prints, Whole};
+ghost use Rattle.harmikse.specs.Code.{isEnd, On, Runs};
 use terms::Answer;
 use terms::LABEL_ENTRIES;
 use terms::LINK_ENTRIES;
-use terms::NO_BOTTOM;
-use terms::NO_TOP;
 use terms::SPAN_NUMBERS;
 
+const LIMIT: usize = 65_536;
+
 fn main() {
-    // The one byte more than 65,536 shows that there is more.
+    // The one byte more than the limit shows that there is more.
     let mut input = [0u8; 65537];
     let read = listing::read_input(&mut input);
     if read.failed {
@@ -19,128 +25,125 @@ fn main() {
         return;
     }
     let count = read.count;
-    if count > 65536 {
-        listing::print(b"input too long\n", b"harmikse: standard output");
+    if LIMIT < count {
+        print_line(b"input too long\n", 15, &input[..count], 1);
         return;
     }
     run(&input[..count]);
 }
 
-fn run(input: &[u8]) {
+// Where the next record starts, how many lines are printed, whether the run goes on, and whether a write failed.
+pub struct Place {
+    pub at: usize,
+    pub printed: usize,
+    pub going: bool,
+    pub failed: bool,
+}
+
+fn run(input: &[u8]) -> Place
+    requires { ⌜ length (now input) ≤ LIMIT ⌝ }
+    ensures { λ r. ⌜ (r .failed ≡ false → Whole (now (input .entry)) (r .printed)) ⌝ }
+{
     let mut block = [0u8; block::SIZE];
     let mut labels = [0u64; LABEL_ENTRIES];
     let mut links = [0u8; LINK_ENTRIES];
     let mut spans = [0i32; SPAN_NUMBERS];
-    let mut at: usize = 0;
-    let mut number: usize = 0;
-    while at < input.len() {
-        number += 1;
-        at = step(
+    let mut place = Place {
+        at: 0,
+        printed: 0,
+        going: true,
+        failed: false,
+    };
+    while place.going {
+        place = step(
             &mut block,
             &mut labels,
             &mut links,
             &mut spans,
             input,
-            at,
-            number,
+            place,
         );
     }
+    place
 }
 
-// Handles the record at `at`, prints its line and answers where the next one starts: the input's end where the run stops.
+// Handles the record where the run is and prints its line.
 fn step(
     block: &mut [u8],
     labels: &mut [u64],
     links: &mut [u8],
     spans: &mut [i32],
     input: &[u8],
-    at: usize,
-    number: usize,
-) -> usize
-    requires { ⌜ (at < length (now input)) × (SPAN-NUMBERS ≤ length (now spans)) ⌝ }
-    ensures { λ r. ⌜ (at < r) × (r ≤ length (now (input .entry))) ⌝ }
+    place: Place,
+) -> Place
+    requires { ⌜ (length (now input) ≤ LIMIT) × (SPAN-NUMBERS ≤ length (now spans))
+        × On (now input) (lent (now block) (now labels) (now links) (now spans)) (place .printed) (place .at) ⌝ }
+    ensures { λ r. ⌜ Runs (now (input .entry)) (lent (now (block .exit)) (now (labels .exit)) (now (links .exit)) (now (spans .exit))) r ⌝ }
+    ensures { λ r. ⌜ (r .going ≡ true → place .at < r .at) ⌝ }
 {
+    let at = place.at;
     let reply = service::record_at(block, labels, links, spans, input, at);
     let answer = reply.answer;
-    if print_line(number as u64, answer, spans) {
-        return behind(at, reply.used, input.len());
+    if is_end(answer) {
+        return Place {
+            at,
+            printed: place.printed,
+            going: false,
+            failed: false,
+        };
     }
-    input.len()
+    let number = place.printed + 1;
+    let next = at + reply.used;
+    let written = print_answer(number, answer, spans, input);
+    Place {
+        at: next,
+        printed: number,
+        going: written & goes_on(answer),
+        failed: !written,
+    }
 }
 
-// The place behind the bytes used. Refusal 3 uses all that is left, so it ends the run; so does a call that uses none.
-fn behind(at: usize, used: usize, end: usize) -> usize
-    requires { ⌜ at < end ⌝ }
-    ensures { λ r. ⌜ (at < r) × (r ≤ end) ⌝ }
+fn is_end(answer: Answer) -> bool
+    ensures { λ r. ⌜ r ≡ isEnd answer ⌝ }
 {
-    if used == 0 {
-        return end;
+    match answer {
+        Answer::Done => false,
+        Answer::Yes => false,
+        Answer::No => false,
+        Answer::Contradiction(_) => false,
+        Answer::Spans(_) => false,
+        Answer::End => true,
+        Answer::Refused(_) => false,
     }
-    if end - at < used {
-        return end;
-    }
-    at + used
 }
 
-// A line has 20 bytes for its number, a blank, 36 for the words, 44 for each of 97 pairs, and its end.
-fn print_line(number: u64, answer: Answer, spans: &[i32]) -> bool
-    requires { ⌜ SPAN-NUMBERS ≤ length (now spans) ⌝ }
+fn goes_on(answer: Answer) -> bool
+    ensures { λ r. ⌜ r ≡ goesOn answer ⌝ }
+{
+    match answer {
+        Answer::Done => true,
+        Answer::Yes => true,
+        Answer::No => true,
+        Answer::Contradiction(_) => true,
+        Answer::Spans(_) => true,
+        Answer::End => false,
+        Answer::Refused(number) => number != 3,
+    }
+}
+
+// The line of a record, whose number and answer these are.
+fn print_answer(number: usize, answer: Answer, spans: &[i32], input: &[u8]) -> bool
+    requires { ⌜ (pairCount answer ≤ 97) × (SPAN-NUMBERS ≤ length (now spans))
+        × Prints (now input) number (lineText number answer (now spans)) ⌝ }
 {
     let mut line = [0u8; 4326];
-    let blank = listing::put_number(&mut line, 0, number);
-    let words = listing::put_text(&mut line, blank, b" ");
-    let pairs = listing::put_answer(&mut line, words, answer);
-    let end = put_pairs(&mut line, pairs, spans, pair_count(answer));
-    let all = listing::put_text(&mut line, end, b"\n");
-    listing::print_first(&line, all, b"harmikse: standard output")
+    let count = lines::line(&mut line, number as u64, answer, spans);
+    print_line(&line, count, input, number)
 }
 
-// How many pairs the answer has; the span buffer has room for 97.
-fn pair_count(answer: Answer) -> usize
-    ensures { λ r. ⌜ r ≤ 97 ⌝ }
+// Writes the first bytes of a buffer, which are to be the line of that number for this input.
+fn print_line(line: &[u8], count: usize, input: &[u8], number: usize) -> bool
+    requires { ⌜ (count ≤ length (now line)) × Prints (now input) number (take count (now line)) ⌝ }
 {
-    let Answer::Spans(count) = answer else {
-        return 0;
-    };
-    if count > 97 {
-        return 97;
-    }
-    count as usize
-}
-
-fn put_pairs(out: &mut [u8], at: usize, spans: &[i32], count: usize) -> usize
-    requires { ⌜ (at + 44 * count ≤ length (now out)) × (2 * count ≤ length (now spans)) ⌝ }
-    ensures { λ r. ⌜ r ≤ at + 44 * count ⌝ }
-    ensures { λ r. ⌜ length (now (out .exit)) ≡ length (now (out .entry)) ⌝ }
-{
-    let mut next = at;
-    let mut i: usize = 0;
-    while i < count {
-        next = put_pair(out, next, spans[2 * i], spans[2 * i + 1]);
-        i += 1;
-    }
-    next
-}
-
-fn put_pair(out: &mut [u8], at: usize, top: i32, bottom: i32) -> usize
-    requires { ⌜ at + 44 ≤ length (now out) ⌝ }
-    ensures { λ r. ⌜ r ≤ at + 44 ⌝ }
-    ensures { λ r. ⌜ length (now (out .exit)) ≡ length (now (out .entry)) ⌝ }
-{
-    let upper = listing::put_text(out, at, b" ");
-    let colon = put_end(out, upper, top, NO_TOP);
-    let lower = listing::put_text(out, colon, b":");
-    put_end(out, lower, bottom, NO_BOTTOM)
-}
-
-// A depth, or a star for the number that means no end on its side.
-fn put_end(out: &mut [u8], at: usize, depth: i32, none: i32) -> usize
-    requires { ⌜ at + 21 ≤ length (now out) ⌝ }
-    ensures { λ r. ⌜ r ≤ at + 21 ⌝ }
-    ensures { λ r. ⌜ length (now (out .exit)) ≡ length (now (out .entry)) ⌝ }
-{
-    if depth == none {
-        return listing::put_text(out, at, b"*");
-    }
-    listing::put_depth(out, at, depth)
+    listing::print_first(line, count, b"harmikse: standard output")
 }

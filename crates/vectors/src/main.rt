@@ -288,12 +288,12 @@ fn after(place: Place, next: usize, end: usize, reply: Reply, sums: Checksums) -
 fn print_line(number: usize, reply: Reply, sums: Checksums) -> bool {
     let mut line = [0u8; 238];
     let answer = reply.answer;
-    let blank = listing::put_number(&mut line, 0, number as u64);
-    let words = listing::put_text(&mut line, blank, b" ");
-    let bytes = listing::put_answer(&mut line, words, answer);
-    let used = listing::put_counted(&mut line, bytes, b" used ", reply.used as u64);
+    let blank = lines::put_number(&mut line, 0, number as u64);
+    let words = lines::put_text(&mut line, blank, b" ");
+    let bytes = lines::put_answer(&mut line, words, answer);
+    let used = lines::put_counted(&mut line, bytes, b" used ", reply.used as u64);
     let end = put_sums(&mut line, used, sums);
-    let all = listing::put_text(&mut line, end, b"\n");
+    let all = lines::put_text(&mut line, end, b"\n");
     listing::print_first(&line, all, b"vectors: standard output")
 }
 
@@ -302,10 +302,10 @@ fn put_sums(out: &mut [u8], at: usize, sums: Checksums) -> usize
     ensures { λ r. ⌜ r ≤ at + 144 ⌝ }
     ensures { λ r. ⌜ length (now (out .exit)) ≡ length (now (out .entry)) ⌝ }
 {
-    let second = listing::put_counted(out, at, b" block ", sums.block);
-    let third = listing::put_counted(out, second, b" labels ", sums.labels);
-    let fourth = listing::put_counted(out, third, b" links ", sums.links);
-    listing::put_counted(out, fourth, b" spans ", sums.spans)
+    let second = lines::put_counted(out, at, b" block ", sums.block);
+    let third = lines::put_counted(out, second, b" labels ", sums.labels);
+    let fourth = lines::put_counted(out, third, b" links ", sums.links);
+    lines::put_counted(out, fourth, b" spans ", sums.spans)
 }
 
 // FILL: one memory, whole.

@@ -1,9 +1,10 @@
--- The room asked for is that of 20 digits, the most that a 64-bit number has.
+-- The digits that are laid are the number's, of which there are at most 20.
+use mathlib.Core.Path.{_∙_}
 use native.Mathlib.Omega.{arith}
-use Rattle.listing.proofs.Digits.{at-most-20}
+use Rattle.lines.proofs.Spelled.{at-most-20, decimal-is}
 use borrow.Author.Needs.{needs}
-use Rattle.listing.proofs.put_number.Statement.{statement}
-use Rattle.listing.proofs.put_number.Tie as tie
+use Rattle.lines.proofs.put_number.Statement.{statement}
+use Rattle.lines.proofs.put_number.Tie as tie
 
 decimal-requires : tie.Need-decimal-requires
 decimal-requires c κs = search needs
@@ -16,27 +17,18 @@ slice-aggregate-put-text c = search needs
 
 put-text-requires : tie.Need-put-text-requires
 put-text-requires c κs =
+    let spelt = c .before .before .decimal in
     let start = c .before .before .before .before .before in
-    omega (
-      arith,
-      c .before .before .decimal .ensures .0 .1,
-      at-most-20 (start .args .n) (c .before .before .decimal .result) (search needs) (c .before .before .decimal .ensures .1 .0),
-    )
+    omega (arith, spelt .ensures .0 .1, at-most-20 (start .args .n) (spelt .result) (search needs) (spelt .ensures .1 .0))
 
 same-length : tie.Need-same-length
 same-length c = search needs
 
 returns : tie.Need-returns
 returns c =
-    let decimal = c .before .before .before .before .before in (
-      omega (
-        arith,
-        decimal .decimal .ensures .0 .1,
-        at-most-20 (decimal .before .before .before .args .n) (decimal .decimal .result) (search needs)
-            (decimal .decimal .ensures .1 .0),
-      ),
-      search needs,
-    )
+    let spelt = c .before .before .before .before .before .decimal in
+    let start = c .before .before .before .before .before .before .before .before in
+    rw (spelt .ensures .1 .1 ∙ decimal-is (start .args .n) (spelt .result) (search needs) (spelt .ensures .1 .0)) at (c .before .before .put-text .ensures)
 
 pub put-number-spec : {M : Type 1} → statement M
 put-number-spec =

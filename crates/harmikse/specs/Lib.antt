@@ -1,0 +1,5 @@
+pub mod Program
+pub mod Code
+pub mod Uses
+pub mod Reached
+pub mod Lines
