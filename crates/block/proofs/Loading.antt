@@ -12,13 +12,14 @@ use Rattle.terms.specs.declared.Mark.{Mark}
 use Rattle.terms.specs.Tests.{of-true}
 use Rattle.terms.specs.declared.Settings.{Settings}
 use Rattle.terms.specs.Limits.{RULES, MARKS}
-use Rattle.terms.specs.Held.{Held, rulesIn}
+use Rattle.terms.specs.Held.{Held}
+use Rattle.terms.specs.Places.{rulesIn}
 use Rattle.terms.specs.Lists.{limits}
 use Rattle.state.specs.declared.State.{State}
 use Rattle.state.specs.State.{heldOf, Counts-in}
 use Rattle.block.specs.declared.Loaded.{Loaded}
-use Rattle.block.specs.Layout.{settingsAt, ruleRead, markRead, tab}
-use Rattle.block.specs.Block.{HEADER, RULE-BYTES, MARK-BYTES, MARKS-AT, SIZE, encode, readHeld, sameBytes, good, Loaded-as}
+use Rattle.block.specs.Block.{settingsAt, ruleRead, markRead, tab, readHeld, sameBytes, good, Loaded-as}
+use Rattle.block.specs.Layout.{HEADER, RULE-BYTES, MARK-BYTES, MARKS-AT, SIZE, encode}
 use Rattle.block.specs.Places.{placeFrom, markFrom, Filled, Not-good}
 use Rattle.block.proofs.Tab.{map-tab, length-tab}
 use Rattle.block.proofs.Equal.{same-is}

@@ -11,11 +11,24 @@ use Rattle.codec.proofs.Laws.{put-put, length-bytes}
 use Rattle.terms.specs.declared.RulePlace.{RulePlace}
 use Rattle.terms.specs.declared.Mark.{Mark}
 use Rattle.terms.specs.Limits.{RULES, MARKS}
-use Rattle.terms.specs.Held.{rulesIn}
+use Rattle.terms.specs.Places.{rulesIn}
 use Rattle.state.specs.declared.State.{State}
 use Rattle.state.specs.State.{heldOf, Counts-in}
-use Rattle.block.specs.Layout.{settingsBytes, ruleBytes, markBytes, cat, zeros}
-use Rattle.block.specs.Block.{SETTINGS-AT, HEADER, RULE-BYTES, MARK-BYTES, MARKS-AT, SIZE, padded, encode}
+use Rattle.block.specs.Layout.{
+  settingsBytes,
+  ruleBytes,
+  markBytes,
+  cat,
+  zeros,
+  SETTINGS-AT,
+  HEADER,
+  RULE-BYTES,
+  MARK-BYTES,
+  MARKS-AT,
+  SIZE,
+  padded,
+  encode,
+}
 use Rattle.block.specs.Places.{placeBytesOf}
 use Rattle.block.proofs.Tab.{cat-map, length-cat}
 use Rattle.block.proofs.Sizes.{settings-size, place-size, mark-size, length-zeros}

@@ -25,27 +25,19 @@ use Rattle.terms.specs.declared.Settings.{Settings}
 use Rattle.terms.specs.Limits.{RULES, MARKS, isDepth}
 use Rattle.terms.specs.Operators.{operatorOf, codeOf, distanceOf, isOperator, orIdentity}
 use Rattle.terms.specs.Readings.{operator-read, distance-fits, depth-fits}
-use Rattle.terms.specs.Held.{Held, emptyMark, isNamed, isRule, isMarkable, isMark}
+use Rattle.terms.specs.Held.{Held, isNamed, isRule, isMarkable, isMark, emptyHeld}
+use Rattle.terms.specs.Places.{emptyMark}
 use Rattle.terms.specs.Lists.{every, limits}
 use Rattle.terms.specs.Limited.{Limited, limited}
-use Rattle.state.specs.Changes.{emptyHeld}
 use Rattle.block.specs.Layout.{
   settingsBytes,
-  settingsAt,
   placeBytes,
   ruleBytes,
-  ruleOf,
-  ruleRead,
   markBytesOf,
   atomBytes,
   markBytes,
-  markOf,
-  markRead,
-  tab,
   cat,
   zeros,
-}
-use Rattle.block.specs.Block.{
   SETTINGS-AT,
   HEADER,
   RULE-BYTES,
@@ -54,6 +46,14 @@ use Rattle.block.specs.Block.{
   SIZE,
   padded,
   encode,
+}
+use Rattle.block.specs.Block.{
+  settingsAt,
+  ruleOf,
+  ruleRead,
+  markOf,
+  markRead,
+  tab,
   readHeld,
   sameBytes,
   unreadable,

@@ -13,8 +13,18 @@ use Rattle.terms.specs.declared.Atom.{Atom}
 use Rattle.terms.specs.declared.Atom.the-variants.{Has, Linked}
 use Rattle.terms.specs.declared.Mark.{Mark}
 use Rattle.terms.specs.declared.Settings.{Settings}
-use Rattle.block.specs.Layout.{settingsBytes, placeBytes, ruleBytes, markBytesOf, atomBytes, markBytes, zeros}
-use Rattle.block.specs.Block.{SETTINGS-AT, HEADER, padded}
+use Rattle.block.specs.Layout.{
+  settingsBytes,
+  placeBytes,
+  ruleBytes,
+  markBytesOf,
+  atomBytes,
+  markBytes,
+  zeros,
+  SETTINGS-AT,
+  HEADER,
+  padded,
+}
 use Rattle.block.specs.Places.{placeBytesOf}
 
 pub settings-size : (σ : Settings) → length (settingsBytes σ) ≤ HEADER - SETTINGS-AT

@@ -9,7 +9,8 @@ use lib.ListN.{length, getD, take, set, length-append, List·getD-append}
 use lib.Seq.{take-suc, take-suc-set, take-all, length-take-le, getD-append-add}
 use Rattle.codec.specs.Bytes.{put}
 use Rattle.codec.proofs.Laws.{put-put}
-use Rattle.block.specs.Layout.{tab, cat}
+use Rattle.block.specs.Layout.{cat}
+use Rattle.block.specs.Block.{tab}
 
 -- a store of f i at i
 pub tab-more : {X : Type 0} (f : ℕ → X) (l : List X) (i : ℕ) (a : X) → i < length l → take i l ≡ tab f i → a ≡ f i → take (i + 1) (set l i a) ≡ tab f (i + 1)

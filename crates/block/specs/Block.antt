@@ -1,49 +1,50 @@
--- The state block: its bytes for what is held, and what a block holds.
+-- What a block holds, and whether it is good.
 use mathlib.Core.Path.{_≡_}
 use mathlib.Core.Bool.{Bool, true, false, cond, _&&_}
 use mathlib.Core.List.{List, [], _∷_, _++_}
-use Prim.Native.Nat.{ℕ, _+_, _-_, _*_}
+use Prim.Native.Nat.{ℕ, zero, suc, _+_, _*_}
 use lib.Dec.{eqb}
-use lib.ListN.{length, take}
-use Rattle.codec.specs.Bytes.{little, bytes}
-use Rattle.terms.specs.Limits.{RULES, MARKS}
-use Rattle.terms.specs.Held.{Held}
+use lib.IntN.{ℤ}
+use lib.ListN.{take, getD}
+use Rattle.codec.specs.Bytes.{little, signed32At}
+use Rattle.terms.specs.declared.Rule.{Rule}
+use Rattle.terms.specs.declared.Rule.the-variants.{Label, Both, Link, Via}
+use Rattle.terms.specs.declared.Atom.the-variants.{Has, Linked}
+use Rattle.terms.specs.declared.Mark.{Mark}
+use Rattle.terms.specs.declared.Settings.{Settings}
+use Rattle.terms.specs.Operators.{operatorOf, orIdentity}
+use Rattle.terms.specs.Held.{Held, freshSettings}
 use Rattle.terms.specs.Lists.{limits}
 use Rattle.state.specs.State.{heldOf, Counts-in}
 use Rattle.block.specs.declared.Loaded.{Loaded}
-use Rattle.block.specs.Layout.{settingsBytes, settingsAt, ruleBytes, ruleRead, markBytes, markRead, tab, cat, zeros}
+use Rattle.block.specs.Layout.{HEADER, RULE-BYTES, MARK-BYTES, MARKS-AT, SIZE, encode}
 
--- 01, State and tables: the block's fixed size; a header, the rule places, the mark places
-abbrev pub SETTINGS-AT : ℕ
-SETTINGS-AT = 4
+-- docs/STATE.md, a rule place, read
+unfoldable pub ruleOf : ℕ → ℕ → ℕ → ℕ → ℕ → Rule
+ruleOf k a b c n =
+    cond (eqb k 2) (Label (orIdentity (operatorOf a n)) b c)
+    (cond (eqb k 3) (Both a b c)
+    (cond (eqb k 4) (Link (orIdentity (operatorOf a n)) b c) (Via a b c)))
 
-abbrev pub HEADER : ℕ
-HEADER = 32
+-- the rule in the eight bytes from `at` on; what no rule is stored as is read as another
+abbrev pub ruleRead : List ℕ → ℕ → Rule
+ruleRead b at = ruleOf (getD b at 0) (getD b (at + 1) 0) (getD b (at + 2) 0) (getD b (at + 3) 0) (little 4 b (at + 4))
 
-abbrev pub RULE-BYTES : ℕ
-RULE-BYTES = 8
+-- a mark place, read
+unfoldable pub markOf : ℕ → ℕ → ℕ → ℕ → ℤ → Mark
+markOf k a b c d = cond (eqb k 6) (record { atom = Has a b; depth = d }) (record { atom = Linked a b c; depth = d })
 
-abbrev pub MARK-BYTES : ℕ
-MARK-BYTES = 8
+abbrev pub markRead : List ℕ → ℕ → Mark
+markRead b at = markOf (getD b at 0) (getD b (at + 1) 0) (getD b (at + 2) 0) (getD b (at + 3) 0) (signed32At b (at + 4))
 
-abbrev pub MARKS-AT : ℕ
-MARKS-AT = HEADER + RULES * RULE-BYTES
+-- the settings, read: none yet
+abbrev pub settingsAt : List ℕ → Settings
+settingsAt b = freshSettings
 
-abbrev pub SIZE : ℕ
-SIZE = MARKS-AT + MARKS * MARK-BYTES
-
--- xs with zero bytes behind it, k in all
-abbrev pub padded : ℕ → List ℕ → List ℕ
-padded k xs = xs ++ zeros (k - length xs)
-
--- docs/STATE.md: how many rules and marks, the settings, the rules, the marks; what is free is zero bytes
-unfoldable pub encode : Held → List ℕ
-encode h =
-    bytes 2 (length (h .rules))
-    ++ (bytes 2 (length (h .marks))
-    ++ (padded (HEADER - SETTINGS-AT) (settingsBytes (h .settings))
-    ++ (padded (RULES * RULE-BYTES) (cat ruleBytes (h .rules))
-    ++ padded (MARKS * MARK-BYTES) (cat markBytes (h .marks)))))
+-- f 0, f 1 .., n in all
+unfoldable pub tab : {X : Type 0} → (ℕ → X) → ℕ → List X
+tab f zero = []
+tab f (suc n) = tab f n ++ (f n ∷ [])
 
 -- what the counts, places and settings of a block give
 unfoldable pub readHeld : List ℕ → Held

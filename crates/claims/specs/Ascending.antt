@@ -10,14 +10,20 @@ use borrow.Author.Tests.{ne-eqb}
 use lib.Dec.{T}
 use Rattle.terms.specs.declared.Tested.{Tested}
 use Rattle.terms.specs.declared.Tested.the-variants as Tested
-use Rattle.terms.specs.Refusals.{rank, Test, tested, orElse}
+use Rattle.terms.specs.Refusals.{rank, Test, tested}
+use Rattle.terms.specs.Otherwise.{orElse}
 use Rattle.terms.specs.Ranks.{rank-same}
 use Rattle.terms.specs.Held.{_∈_}
+use Rattle.claims.specs.Table.{Ascends}
+
+-- two constructors are not one
+pub differ : {A : Type 0} → _≡_ {A = ℕ} 0 1 → A
+differ e = let z : ⊥ = omega arith in absurd z
 
 -- ---- what tests come to
 
 pub clash : {A : Type 0} {n : ℕ} → Tested.Passed ≡ Tested.Refused n → A
-clash e = let z : _≡_ {A = ℕ} 0 1 = cc in let w : ⊥ = omega arith in absurd w
+clash e = differ (cc)
 
 pub same-number : {n k : ℕ} → Tested.Refused n ≡ Tested.Refused k → n ≡ k
 same-number e = cc
@@ -59,20 +65,10 @@ tested-some (u ∷ ts) t m p = go (u .applies) refl (λ n. tested-some ts t n p)
 
 -- ---- ranks that ascend
 
--- the ranks lie from one to another, and each is at most those behind it
-abbrev pub Ascends : ℕ → ℕ → List Test → Type 0
-Ascends low high [] = Unit {0}
-Ascends low high (t ∷ ts) = (low ≤ rank (t .number)) × (rank (t .number) ≤ high) × Ascends (rank (t .number)) high ts
-
 pub wider : (low high low′ high′ : ℕ) (ts : List Test) → low′ ≤ low → high ≤ high′ → Ascends low high ts → Ascends low′ high′ ts
 wider low high low′ high′ [] l h a = tt
 wider low high low′ high′ (t ∷ ts) l h a =
     (omega (arith, a .0), omega (arith, a .1), wider (rank (t .number)) high (rank (t .number)) high′ ts (omega arith) h (a .2))
-
-pub ascends-append :
-    (low mid high : ℕ) (xs ys : List Test) → low ≤ mid → mid ≤ high → Ascends low mid xs → Ascends mid high ys → Ascends low high (xs ++ ys)
-ascends-append low mid high [] ys l h a b = wider mid high low high ys l (omega arith) b
-ascends-append low mid high (t ∷ xs) ys l h a b = (a .0, omega (arith, a .1), ascends-append (rank (t .number)) mid high xs ys (a .1) h (a .2) b)
 
 -- each rank is in range
 pub in-range : (low high : ℕ) (ts : List Test) → Ascends low high ts → (t : Test) → t ∈ ts → (low ≤ rank (t .number)) × (rank (t .number) ≤ high)

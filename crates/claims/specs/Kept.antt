@@ -1,9 +1,9 @@
 -- Every accepted record keeps the limits. Assumes nothing.
 use mathlib.Core.Path.{_≡_, sym, ap, _∙_, subst}
-use mathlib.Core.Logic.{_⊎_, ⊎-elim}
+use mathlib.Core.Logic.{⊎-elim}
 use mathlib.Core.Bool.{Bool, true, false, not, _&&_}
 use mathlib.Core.List.{List, [], _∷_, _++_, List·Memᴰ·append-cases, List·Memᴰ·eq-of-singleton}
-use Prim.Native.Nat.{ℕ, _≤_, _<_, _+_}
+use Prim.Native.Nat.{ℕ, _≤_, _<_}
 use native.Mathlib.Omega.{arith}
 use lib.Dec.{T, leb, nleb→lt}
 use lib.IntN.{ℤ}
@@ -13,10 +13,12 @@ use Rattle.terms.specs.declared.Mark.{Mark}
 use Rattle.terms.specs.Limits.{RULES, MARKS, DEPTHS}
 use Rattle.terms.specs.declared.Tested.the-variants as Tested
 use Rattle.terms.specs.Refusals.{Test, test, tested}
-use Rattle.terms.specs.Held.{_∈_, Held, isRule, isMark}
-use Rattle.terms.specs.Same.{sameRule, sameMark, same-rule, rule-same, same-mark, mark-same}
+use Rattle.terms.specs.Held.{_∈_, Held, isRule, isMark, emptyHeld}
+use Rattle.terms.specs.Same.{sameRule, sameMark}
+use Rattle.terms.specs.SameLaws.{same-rule, rule-same, same-mark, mark-same}
 use Rattle.terms.specs.Lists.{some, every, strike, once, depthCount}
-use Rattle.line.specs.Cuts.{insert, insert-length, insert-has, insert-keeps, insert-asc, insert-again, depthsOf, depths-only}
+use Rattle.line.specs.Cuts.{insert, depthsOf}
+use Rattle.line.specs.CutLaws.{insert-length, insert-has, insert-keeps, insert-asc, insert-again, depths-only}
 pub use Rattle.terms.specs.Limited.{
   some-in,
   in-some,
@@ -32,7 +34,7 @@ pub use Rattle.terms.specs.Limited.{
   in-range,
 }
 pub use Rattle.decide.specs.Count.{depths-asc, depths-in, within-length, marksAt, depth-some, some-depth, depth-count, few-cuts}
-use Rattle.state.specs.Changes.{ruleTests, putTests, addRule, putMark, takeMark, emptyHeld}
+use Rattle.state.specs.Changes.{ruleTests, putTests, addRule, putMark, takeMark}
 
 -- ---- a test that does not apply
 

@@ -2,7 +2,7 @@
 use mathlib.Core.Path.{_≡_, refl, sym, _∙_, subst}
 use mathlib.Core.Bool.{Bool, true, false, not}
 use mathlib.Core.List.{List, [], _∷_, _++_}
-use Prim.Native.Nat.{ℕ, _≤_, _+_, _-_, _*_}
+use Prim.Native.Nat.{ℕ, _≤_, _*_}
 use native.Mathlib.Omega.{arith}
 use lib.IntN.{ℤ}
 use lib.ListN.{length, take, drop, length-append, length-drop}
@@ -13,63 +13,38 @@ use Rattle.terms.specs.declared.Question.{Question}
 use Rattle.terms.specs.declared.Question.the-variants as Question
 use Rattle.terms.specs.declared.Tested.{Tested}
 use Rattle.terms.specs.declared.Tested.the-variants as Tested
-use Rattle.terms.specs.Answers.{pairCount}
 use Rattle.terms.specs.Tests.{and-both, of-true}
 use Rattle.terms.specs.Limits.{LABEL-ENTRIES, LINK-ENTRIES}
-use Rattle.terms.specs.Refusals.{test, tested, onTested}
+use Rattle.terms.specs.Refusals.{test, tested}
+use Rattle.terms.specs.Otherwise.{onTested}
 use Rattle.terms.specs.Held.{Held}
 use Rattle.terms.specs.Lists.{limits}
-use Rattle.terms.specs.Spans.{Run}
-use Rattle.block.specs.Block.{SIZE, encode, readHeld, sameBytes, good}
+use Rattle.terms.specs.Spans.{Run, flat}
+use Rattle.block.specs.Block.{readHeld, sameBytes, good}
+use Rattle.block.specs.Layout.{SIZE, encode}
 use Rattle.records.specs.declared.Command.the-variants as Command
 use Rattle.records.specs.Records.{questionTests, decodedAs, asQuestion, parsedBody, parse}
 use Rattle.tables.specs.Tables.{labelTable, linkTable}
-use Rattle.spans.specs.Runs.{flat}
 use Rattle.spans.specs.Longest.{flat-length}
-use Rattle.decide.specs.Decide.{Yes, No, Spans, Reply, Contradiction, Answered, answer}
-use Rattle.decide.specs.Verdicts.{length-labels, length-links, spans-fit}
-use Rattle.service.specs.Call.{
-  Buffers,
-  after,
-  short,
-  lentTests,
-  Outcome,
-  Refused,
-  Ended,
-  Changed,
-  Asked,
-  judged,
-  filled,
-  replied,
-  effect,
-  onLent,
-  call,
-  spanCall,
-}
+use Rattle.decide.specs.Answer.{answer}
+use Rattle.decide.specs.Decides.{Yes, No, Spans, Reply, Contradiction, Answered}
+use Rattle.decide.specs.Verdicts.{spans-fit}
+use Rattle.tables.specs.TableLaws.{length-labels, length-links}
+use Rattle.service.specs.Call.{lentTests, Outcome, Refused, Ended, Changed, Asked, judged, filled, replied, effect, onLent, call, spanCall}
+use Rattle.service.specs.Buffers.{Buffers, after, short}
 use Rattle.service.specs.Code.{Enough, enough}
+use Rattle.terms.specs.Pairs.{pairCount}
+use Rattle.claims.specs.Memory.{Written-in, Lent-kept}
 use Rattle.claims.specs.Ascending.{clash}
 use Rattle.claims.specs.Kept.{Limited, limited, few-cuts}
 use Rattle.claims.specs.Life.{Stays-limited, judged-limited}
 use Rattle.claims.specs.Whole.{laws}
-
--- what was written lies in the first n, and the length is the old one
-pub record Written-in {A : Type 0} (n : ℕ) (old new : List A) : Type 0 where
-  pub same-length : length new ≡ length old
-  pub same-tail : drop n new ≡ drop n old
 
 untouched : {A : Type 0} (n : ℕ) (old : List A) → Written-in n old old
 untouched n old = record { same-length = refl; same-tail = refl }
 
 written : {A : Type 0} (n : ℕ) (p old : List A) → length p ≡ n → n ≤ length old → Written-in n old (p ++ drop n old)
 written n p old e l = record { same-length = length-append p (drop n old) ∙ omega (arith, e, length-drop n old); same-tail = drop-at p (drop n old) n e }
-
--- 01, State and tables: lent memory longer than this, the block included, keeps its tail; the pairs fit the span buffer, and behind them it is unchanged
-pub record Lent-kept (a : Answer) (m after : Buffers) : Type 0 where
-  pub block : Written-in SIZE (m .block) (after .block)
-  pub labels : Written-in LABEL-ENTRIES (m .labels) (after .labels)
-  pub links : Written-in LINK-ENTRIES (m .links) (after .links)
-  pub spans : Written-in (2 * pairCount a) (m .spans) (after .spans)
-  pub pairs : pairCount a ≤ 97
 
 all-kept : (a : Answer) (m : Buffers) → pairCount a ≡ 0 → Lent-kept a m m
 all-kept a m e = record {

@@ -3,7 +3,7 @@
 use mathlib.Core.Path.{_≡_, refl, sym, ap, _∙_, subst}
 use mathlib.Core.Bool.{Bool, true, false, not, cond, true≢false}
 use mathlib.Core.List.{List, [], _∷_, _++_, append-assoc}
-use Prim.Native.Nat.{ℕ, _≤_, _+_, _-_, _*_, min}
+use Prim.Native.Nat.{ℕ, _≤_, _+_, _*_, min}
 use lib.Dec.{T}
 use lib.ListN.{length, take, drop, length-append, length-take, take-append-drop}
 use lib.Seq.{take-at, take-append-le}
@@ -13,26 +13,23 @@ use Rattle.terms.specs.declared.Question.the-variants as Question
 use Rattle.terms.specs.declared.Tested.{Tested}
 use Rattle.terms.specs.declared.Tested.the-variants as Tested
 use Rattle.terms.specs.Tests.{true-of}
-use Rattle.terms.specs.Refusals.{test, tested, onTested}
-use Rattle.terms.specs.Held.{Held}
+use Rattle.terms.specs.Refusals.{test, tested}
+use Rattle.terms.specs.Otherwise.{onTested}
+use Rattle.terms.specs.Held.{Held, emptyHeld}
 use Rattle.terms.specs.Lists.{limits}
-use Rattle.state.specs.Changes.{emptyHeld}
-use Rattle.block.specs.Layout.{zeros}
-use Rattle.block.specs.Block.{SIZE, encode, readHeld, good}
+use Rattle.block.specs.Layout.{zeros, SIZE, encode}
+use Rattle.block.specs.Block.{readHeld, good}
 use Rattle.records.specs.declared.Command.{Command}
 use Rattle.records.specs.declared.Command.the-variants as Command
 use Rattle.records.specs.Parsed.{Parsed}
 use Rattle.records.specs.Parsed as Parsed
 use Rattle.records.specs.Records.{questionTests, decodedAs, parsedBody, parse}
-use Rattle.spans.specs.Runs.{flat}
+use Rattle.terms.specs.Spans.{flat}
 use Rattle.spans.specs.Longest.{flat-length}
-use Rattle.decide.specs.Decide.{Yes, No, Spans, Reply, Contradiction, Answered, Decides, answer, answer-decides}
+use Rattle.decide.specs.Decide.{answer-decides}
+use Rattle.decide.specs.Answer.{answer}
+use Rattle.decide.specs.Decides.{Yes, No, Spans, Reply, Contradiction, Answered, Decides}
 use Rattle.service.specs.Call.{
-  Buffers,
-  After,
-  after,
-  isShort,
-  short,
   lentTests,
   Outcome,
   Refused,
@@ -47,37 +44,28 @@ use Rattle.service.specs.Call.{
   onLent,
   call,
   spanCall,
-  Beside-call,
-  spans-of,
-  blockAfter,
 }
+use Rattle.service.specs.Buffers.{Buffers, After, after, isShort, short}
 use Rattle.service.specs.Code.{enough}
+use Rattle.claims.specs.Beside.{Beside-call, spans-of, blockAfter}
+use Rattle.claims.specs.Lives.{
+  Lending,
+  lentTo,
+  kept,
+  fed,
+  resultOf,
+  Event,
+  Record,
+  Beside,
+  memAfter,
+  Agrees,
+  finished,
+  recorded,
+  beside,
+}
 use Rattle.claims.specs.Kept.{Limited, of-limited, in-range, empty-limited}
-use Rattle.claims.specs.Reference.{outcome, Book, refused, ended, changed, asked, Lending, lentTo, kept, fed, resultOf}
-
--- a call of the list: a record, or a call beside the records
-pub data Event : Type 0 where
-  Record : Lending → List ℕ → Event
-  Beside : Lending → Beside-call → Event
-
--- the memory after a call
-abbrev pub memAfter : List ℕ → Event → List ℕ
-memAfter mem (Record c s) = kept mem c (call (lentTo mem c) s .buffers .block)
-memAfter mem (Beside c q) = kept mem c (blockAfter q (lentTo mem c))
-
-abbrev pub memories : List ℕ → List Event → List ℕ
-memories mem [] = mem
-memories mem (e ∷ es) = memories (memAfter mem e) es
-
--- demand 3, place by place: the memory holds what the reference machine holds, and its result of the call is the call's
-pub data Agrees : Held → List ℕ → List Event → Type 0 where
-  finished : {h : Held} {mem : List ℕ} → mem ≡ encode h → Agrees h mem []
-  recorded :
-      {h k : Held} {mem : List ℕ} {c : Lending} {s : List ℕ} {es : List Event} → mem ≡ encode h →
-      Book h (outcome h (fed c s)) (resultOf (call (lentTo mem c) s)) k → Agrees k (memAfter mem (Record c s)) es → Agrees h mem (Record c s ∷ es)
-  beside :
-      {h : Held} {mem : List ℕ} {c : Lending} {q : Beside-call} {es : List Event} → mem ≡ encode h →
-      Agrees h (memAfter mem (Beside c q)) es → Agrees h mem (Beside c q ∷ es)
+use Rattle.claims.specs.Told.{outcome, Told, refused, ended, changed, asked}
+use Rattle.claims.specs.Booked.{to-book}
 
 -- what an outcome leaves is within the limits
 abbrev pub Stays-limited : Outcome → Type 0
@@ -143,7 +131,7 @@ module _ (𝓛 : Laws) where
   pub record Then (h : Held) (mem : List ℕ) (c : Lending) (o : Outcome) (a : After) : Type 0 where
     pub holds-then : Held
     pub limits-then : Limited holds-then
-    pub book : Book h o (resultOf a) holds-then
+    pub told : Told h o (resultOf a) holds-then
     pub memory : kept mem c (a .buffers .block) ≡ encode holds-then
 
   module _ (h : Held) (w : Limited h) (mem : List ℕ) (e : mem ≡ encode h) (c : Lending) where
@@ -155,25 +143,25 @@ module _ (𝓛 : Laws) where
     same-memory = ap (take SIZE) (take-append-drop (c .lend) (mem ++ c .behind)) ∙ (take-at mem (c .behind) SIZE size-mem ∙ e)
 
     reply-then : (q : Question) (u : ℕ) (r : Reply) → Decides h q r → Then h mem c (Asked q u) (replied h (lentTo mem c) u r)
-    reply-then q u (Contradiction a) d = record { holds-then = h; limits-then = w; book = asked (Contradiction a) d; memory = same-memory }
-    reply-then q u (Answered Yes) d = record { holds-then = h; limits-then = w; book = asked (Answered Yes) d; memory = same-memory }
-    reply-then q u (Answered No) d = record { holds-then = h; limits-then = w; book = asked (Answered No) d; memory = same-memory }
+    reply-then q u (Contradiction a) d = record { holds-then = h; limits-then = w; told = asked (Contradiction a) d; memory = same-memory }
+    reply-then q u (Answered Yes) d = record { holds-then = h; limits-then = w; told = asked (Answered Yes) d; memory = same-memory }
+    reply-then q u (Answered No) d = record { holds-then = h; limits-then = w; told = asked (Answered No) d; memory = same-memory }
     reply-then q u (Answered (Spans rs)) d = record {
       holds-then = h;
       limits-then = w;
-      book =
-          subst (λ s. Book h (Asked q u) (record { answer = Answer.Spans (length rs); used = u; pairs = s }) h)
+      told =
+          subst (λ s. Told h (Asked q u) (record { answer = Answer.Spans (length rs); used = u; pairs = s }) h)
           (sym (take-at (flat rs) (drop (length (flat rs)) (c .spans)) (2 * length rs) (flat-length rs))) (asked (Answered (Spans rs)) d);
       memory = same-memory;
     }
 
     effect-then : (o : Outcome) → Stays-limited o → Then h mem c o (effect h (lentTo mem c) o)
-    effect-then (Refused n u) k = record { holds-then = h; limits-then = w; book = refused; memory = same-memory }
-    effect-then Ended k = record { holds-then = h; limits-then = w; book = ended; memory = same-memory }
+    effect-then (Refused n u) k = record { holds-then = h; limits-then = w; told = refused; memory = same-memory }
+    effect-then Ended k = record { holds-then = h; limits-then = w; told = ended; memory = same-memory }
     effect-then (Changed g u) k = record {
       holds-then = g;
       limits-then = k;
-      book = changed;
+      told = changed;
       memory = simp append-assoc (take-at (encode g) _ SIZE (𝓛 .length-encode g k));
     }
     effect-then (Asked q u) k = reply-then q u (answer h q) (answer-decides h (in-range h w) q)
@@ -234,18 +222,9 @@ module _ (𝓛 : Laws) where
   lives [] h mem w e = finished e
   lives (Record c s ∷ es) h mem w e =
       let t = call-then h w mem e c s in
-      recorded e (t .book) (lives es (t .holds-then) (memAfter mem (Record c s)) (t .limits-then) (t .memory))
+      recorded e (to-book h (fed c s) (t .told)) (lives es (t .holds-then) (memAfter mem (Record c s)) (t .limits-then) (t .memory))
   lives (Beside c q ∷ es) h mem w e =
       beside e (lives es h (memAfter mem (Beside c q)) w (ap (kept mem c) (beside-keeps q (lentTo mem c)) ∙ same-memory h w mem e c))
-
-  -- the memory after the list, and that it is a held list's
-  pub ends : (es : List Event) (h : Held) (mem : List ℕ) → Limited h → mem ≡ encode h → (k : Held) × Limited k × (memories mem es ≡ encode k)
-  ends [] h mem w e = (h, w, e)
-  ends (Record c s ∷ es) h mem w e =
-      let t = call-then h w mem e c s in
-      ends es (t .holds-then) (memAfter mem (Record c s)) (t .limits-then) (t .memory)
-  ends (Beside c q ∷ es) h mem w e =
-      ends es h (memAfter mem (Beside c q)) w (ap (kept mem c) (beside-keeps q (lentTo mem c)) ∙ same-memory h w mem e c)
 
   pub lived : (es : List Event) → Agrees emptyHeld (zeros SIZE) es
   lived es = lives es emptyHeld (zeros SIZE) empty-limited (sym (𝓛 .encode-empty))

@@ -1,7 +1,7 @@
 -- A block is good exactly if a run of records from zeros leads to it, under `Laws` and with records for rules and marks,
 -- which Whole gives.
 use mathlib.Core.Path.{_≡_, refl, sym, ap, _∙_, subst}
-use mathlib.Core.Logic.{_⊎_, ⊎-elim, _↔_}
+use mathlib.Core.Logic.{⊎-elim, _↔_}
 use mathlib.Core.Bool.{Bool, true, false, not, _&&_, _||_}
 use mathlib.Core.List.{List, [], _∷_, _++_, append-assoc, append-nil, List·Memᴰ·head, List·Memᴰ·tail, Memᴰ·append-left, Memᴰ·append-right}
 use Prim.Native.Nat.{ℕ, suc, _≤_, _<_, _+_}
@@ -16,21 +16,36 @@ use Rattle.terms.specs.Limits.{RULES, MARKS, DEPTHS, LABEL-ENTRIES, LINK-ENTRIE
 use Rattle.terms.specs.declared.Settings.{Settings}
 use Rattle.terms.specs.declared.Tested.the-variants as Tested
 use Rattle.terms.specs.Refusals.{tested}
-use Rattle.terms.specs.Held.{_∈_, Held, isRule, isMark, isSettings}
-use Rattle.terms.specs.Same.{sameRule, sameMark, same-rule, rule-same, same-mark, mark-same, depth-same}
+use Rattle.terms.specs.Held.{_∈_, Held, isRule, isMark, isSettings, emptyHeld}
+use Rattle.terms.specs.Same.{sameRule, sameMark}
+use Rattle.terms.specs.SameLaws.{same-rule, rule-same, same-mark, mark-same, depth-same}
 use Rattle.terms.specs.Lists.{some, once, depthCount, limits}
-use Rattle.line.specs.Cuts.{insert, insert-asc, insert-only, Inserted, was-there, one-more, inserted, depthsOf, depths-only}
-use Rattle.state.specs.Changes.{emptyHeld}
-use Rattle.block.specs.Layout.{zeros}
-use Rattle.block.specs.Block.{SIZE, encode, good}
+use Rattle.line.specs.Cuts.{insert, depthsOf}
+use Rattle.line.specs.CutLaws.{insert-asc, insert-only, Inserted, was-there, one-more, inserted, depths-only}
+use Rattle.block.specs.Layout.{SIZE, encode}
+use Rattle.block.specs.Block.{good}
 use Rattle.records.specs.declared.Command.{Command}
 use Rattle.records.specs.declared.Command.the-variants as Command
 use Rattle.records.specs.Parsed as Parsed
 use Rattle.records.specs.Records.{parse}
 use Rattle.service.specs.Call.{Outcome, Changed, listTests, obey}
-use Rattle.claims.specs.Kept.{in-some, every-in, Limited, limited, of-limited, empty-limited, within-length, depths-asc, depths-in, depth-count, marksAt}
-use Rattle.claims.specs.Reference.{Result, outcome, Book, changed, Lending, fed}
-use Rattle.claims.specs.Life.{Event, Record, memAfter, memories, Laws, call-then, ends}
+use Rattle.claims.specs.Kept.{
+  in-some,
+  every-in,
+  Limited,
+  limited,
+  of-limited,
+  empty-limited,
+  within-length,
+  depths-asc,
+  depths-in,
+  depth-count,
+  marksAt,
+}
+use Rattle.claims.specs.Reference.{Result}
+use Rattle.claims.specs.Lives.{Lending, fed, Bytes, Run-to, from-zeros, by-record}
+use Rattle.claims.specs.Told.{outcome, Told, changed}
+use Rattle.claims.specs.Life.{Laws, call-then}
 
 not-short : (a b : ℕ) → b ≤ a → ltb a b ≡ false
 not-short a b h = false-of (ltb a b) (λ t. let z : ⊥ = omega (arith, ltb→lt a b t) in z)
@@ -38,20 +53,11 @@ not-short a b h = false-of (ltb a b) (λ t. let z : ⊥ = omega (arith, ltb→lt
 below : (a b : ℕ) → b < a → leb a b ≡ false
 below a b h = false-of (leb a b) (λ t. let z : ⊥ = omega (arith, leb→le a b t) in z)
 
-then-is : {h k l : Held} {u : ℕ} {r : Result} → Book h (Changed k u) r l → l ≡ k
+then-is : {h k l : Held} {u : ℕ} {r : Result} → Told h (Changed k u) r l → l ≡ k
 then-is changed = refl
 
-book-at : {h l : Held} {o p : Outcome} {r : Result} → o ≡ p → Book h o r l → Book h p r l
-book-at {h} {l} {r = r} e b = subst (λ v. Book h v r l) e b
-
-memories-snoc : (mem : List ℕ) (es : List Event) (e : Event) → memories mem (es ++ (e ∷ [])) ≡ memAfter (memories mem es) e
-memories-snoc mem [] e = refl
-memories-snoc mem (d ∷ es) e = memories-snoc (memAfter mem d) es e
-
--- some run of records leads from zeros to these bytes; calls beside the records, which change nothing, may stand in it
-pub record Run-to (b : List ℕ) : Type 0 where
-  pub events : List Event
-  pub leads : memories (zeros SIZE) events ≡ b
+told-at : {h l : Held} {o p : Outcome} {r : Result} → o ≡ p → Told h o r l → Told h p r l
+told-at {h} {l} {r = r} e b = subst (λ v. Told h v r l) e b
 
 -- buffers that are long enough, shut so that they are not written out
 labels-lent : List ℕ
@@ -81,6 +87,7 @@ pub record Written (σ : Settings) (c : Command) : Type 0 where
   pub body : List ℕ
   pub used : ℕ
   pub reads : parse σ bytes ≡ Parsed.Record c body used
+  pub small : Bytes bytes
 
 -- in a list without doubles nothing before an element is like it
 not-before : {X : Type 0} (alike : X → X → Bool) → ((x y : X) → T (alike x y) → x ≡ y) → ((x : X) → T (alike x x)) →
@@ -136,9 +143,8 @@ room done todo m h = go (some (marksAt (m .depth)) done) (λ n. old n)
 module _ (𝓛 : Laws) (rule-record : (σ : Settings) (ρ : Rule) → T (isRule ρ) → Written σ (Command.Add ρ))
     (mark-record : (σ : Settings) (m : Mark) → T (isMark m) → Written σ (Command.Put m)) where
   record Reached (h : Held) : Type 0 where
-    events : List Event
     held : Limited h
-    memory : memories (zeros SIZE) events ≡ encode h
+    run : Run-to (encode h)
 
   abbrev lending : Lending
   lending = record { labels = labels-lent; links = links-lent; spans = spans-lent; lend = SIZE; behind = [] }
@@ -151,12 +157,11 @@ module _ (𝓛 : Laws) (rule-record : (σ : Settings) (ρ : Rule) → T (isRule 
       let b = not-short (length links-lent) LINK-ENTRIES (omega (arith, links-long)) in
       let d = not-short (length spans-lent) SPAN-NUMBERS (omega (arith, spans-long)) in
       let o : outcome h (fed lending (w .bytes)) ≡ Changed k (w .used) = rw (a, b, d, w .reads, e) (f (w .used)) in
-      let A = call-then 𝓛 h (R .held) (memories (zeros SIZE) (R .events)) (R .memory) lending (w .bytes) in
-      let q : A .holds-then ≡ k = then-is (book-at o (A .book)) in
+      let A = call-then 𝓛 h (R .held) (encode h) refl lending (w .bytes) in
+      let q : A .holds-then ≡ k = then-is (told-at o (A .told)) in
       record {
-        events = R .events ++ (Record lending (w .bytes) ∷ []);
         held = subst Limited q (A .limits-then);
-        memory = memories-snoc (zeros SIZE) (R .events) (Record lending (w .bytes)) ∙ (A .memory ∙ ap encode q);
+        run = subst Run-to (A .memory ∙ ap encode q) (by-record lending (w .bytes) (w .small) tt (R .run));
       }
 
   -- ---- the settings, then the rules, then the marks, one by one
@@ -166,7 +171,7 @@ module _ (𝓛 : Laws) (rule-record : (σ : Settings) (ρ : Rule) → T (isRule 
 
   -- nothing is set yet, so that no record is needed
   reach-settings : (σ : Settings) → T (isSettings σ) → Reached (of-parts σ [] [])
-  reach-settings σ t = record { events = []; held = empty-limited; memory = sym (𝓛 .encode-empty) }
+  reach-settings σ t = record { held = empty-limited; run = subst Run-to (sym (𝓛 .encode-empty)) from-zeros }
 
   module _ (σ : Settings) where
     reach-rules :
@@ -205,6 +210,14 @@ module _ (𝓛 : Laws) (rule-record : (σ : Settings) (ρ : Rule) → T (isRule 
       (reach-rules σ [] (h .rules) (w .once-rules) (λ ρ n. every-in isRule (h .rules) (w .rules) ρ n) (omega (arith, w .few-rules))
       (reach-settings σ (w .settings)))
 
+  -- and what a run of records leads to is such a block
+  run-held : {mem : List ℕ} → Run-to mem → (h : Held) × Limited h × (mem ≡ encode h)
+  run-held from-zeros = (emptyHeld, empty-limited, sym (𝓛 .encode-empty))
+  run-held (by-record {mem = mem} c s p q R) =
+      let (h, w, e) = run-held R in
+      let A = call-then 𝓛 h w mem e c s in
+      (A .holds-then, A .limits-then, A .memory)
+
   -- 01, Where a record is turned away: number 2 is for a block that no run of records from all zeros leads to
   pub good-exactly :
       (read : (b : List ℕ) → SIZE ≤ length b → T (good b) → (h : Held) × T (limits h) × (take SIZE b ≡ encode h)) (b : List ℕ) →
@@ -212,13 +225,10 @@ module _ (𝓛 : Laws) (rule-record : (σ : Settings) (ρ : Rule) → T (isRule 
   good-exactly read b l = (there, back)
     where
       there : T (good b) → Run-to (take SIZE b)
-      there t =
-          let (h, w, e) = read b l t in
-          let R = reachable h (limited h w) in
-          record { events = R .events; leads = R .memory ∙ sym e }
+      there t = let (h, w, e) = read b l t in subst Run-to (sym e) (reachable h (limited h w) .run)
 
       back : Run-to (take SIZE b) → T (good b)
       back R =
-          let (k, w, e) = ends 𝓛 (R .events) emptyHeld (zeros SIZE) empty-limited (sym (𝓛 .encode-empty)) in
-          let f : b ≡ encode k ++ drop SIZE b = sym (take-append-drop SIZE b) ∙ ap (λ x. x ++ drop SIZE b) (sym (R .leads) ∙ e) in
+          let (k, w, e) = run-held R in
+          let f : b ≡ encode k ++ drop SIZE b = sym (take-append-drop SIZE b) ∙ ap (λ x. x ++ drop SIZE b) e in
           subst (λ x. T (good x)) (sym f) (𝓛 .good-encode k (drop SIZE b) (of-limited k w))

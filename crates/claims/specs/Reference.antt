@@ -1,20 +1,26 @@
--- 01's book, here the reference machine: it is fed the bytes left and four lengths, and nothing else. Assumes nothing.
-use mathlib.Core.Path.{_≡_, refl, ap}
-use mathlib.Core.Bool.{cond}
-use mathlib.Core.List.{List, [], _++_}
-use Prim.Native.Nat.{ℕ, _+_, min}
+-- 01's book, here the reference machine: it is fed the bytes left and four lengths, and nothing else.
+use mathlib.Core.Path.{_≡_}
+use mathlib.Core.Bool.{false}
+use mathlib.Core.List.{List, [], _∷_, _++_}
+use Prim.Native.Nat.{ℕ, _+_, _<_}
 use lib.IntN.{ℤ}
-use lib.ListN.{length, take, drop}
+use lib.ListN.{length}
 use Rattle.terms.specs.declared.Answer.{Answer}
 use Rattle.terms.specs.declared.Answer.the-variants as Answer
-use Rattle.terms.specs.Answers.{pairsOf}
-use Rattle.terms.specs.Held.{Held}
-use Rattle.block.specs.Block.{SIZE}
-use Rattle.records.specs.Records.{parse}
-use Rattle.spans.specs.Runs.{flat}
+use Rattle.terms.specs.declared.Mark.{Mark}
 use Rattle.terms.specs.declared.Question.{Question}
-use Rattle.decide.specs.Decide.{Yes, No, Spans, Reply, Contradiction, Answered, Decides, at-most-one}
-use Rattle.service.specs.Call.{Buffers, lent, After, isShort, Outcome, Refused, Ended, Changed, Asked, judged}
+use Rattle.terms.specs.declared.Rule.{Rule}
+use Rattle.terms.specs.declared.Tested.{Tested}
+use Rattle.terms.specs.declared.Tested.the-variants as Tested
+use Rattle.terms.specs.Held.{Held, withRules, withMarks, emptyHeld}
+use Rattle.terms.specs.Lists.{strike}
+use Rattle.terms.specs.Refusals.{tested}
+use Rattle.terms.specs.Same.{sameMark}
+use Rattle.terms.specs.Spans.{flat}
+use Rattle.records.specs.Formats.{lengthField, usedFor}
+use Rattle.decide.specs.Decides.{Yes, No, Spans, Reply, Contradiction, Answered, Decides}
+use Rattle.service.specs.Buffers.{isShort}
+use Rattle.claims.specs.Table.{Said, Empties, Adds, Puts, Takes, Asks, said, table}
 
 -- 01, The book: what it is fed from a record call
 pub record Fed : Type 0 where
@@ -39,49 +45,37 @@ shown (Answered Yes) u = plain Answer.Yes u
 shown (Answered No) u = plain Answer.No u
 shown (Answered (Spans rs)) u = record { answer = Answer.Spans (length rs); used = u; pairs = flat rs }
 
--- 01, The book: the lowest number that applies, where held means in the book; 2 doesn't arise
-abbrev pub outcome : Held → Fed → Outcome
-outcome h f = cond (isShort (f .block) (f .labels) (f .links) (f .spans)) (Refused 1 0) (judged h (parse (h .settings) (f .bytes)))
+-- 01, The book: what the table comes to, where held means in the book; 2 doesn't arise
+abbrev pub judgement : Held → Fed → Tested
+judgement h f = tested (table (isShort (f .block) (f .labels) (f .links) (f .spans)) false h (f .bytes))
 
--- 01, The book: its result of a call, and what it holds then; questions are decided by interpretations
-pub data Book (h : Held) : Outcome → Result → Held → Type 0 where
-  refused : {n u : ℕ} → Book h (Refused n u) (plain (Answer.Refused n) u) h
-  ended : Book h Ended (plain Answer.End 0) h
-  changed : {k : Held} {u : ℕ} → Book h (Changed k u) (plain Answer.Done u) k
-  asked : {q : Question} {u : ℕ} (r : Reply) → Decides h q r → Book h (Asked q u) (shown r u) h
+-- 01, The book: any other call is accepted; here one with a record
+pub record Accepted (h : Held) (f : Fed) (x : Said) : Type 0 where
+  pub passes : judgement h f ≡ Tested.Passed
+  pub left : 0 < length (f .bytes)
+  pub says : said (f .bytes) ≡ x
 
--- it has one result for each call, and holds one thing then
-pub book-one : {h : Held} {o : Outcome} {r s : Result} {k l : Held} → Book h o r k → Book h o s l → (r ≡ s) × (k ≡ l)
-book-one refused refused = (refl, refl)
-book-one ended ended = (refl, refl)
-book-one changed changed = (refl, refl)
-book-one {h} (asked {q = q} {u = u} r d) (asked s e) = (ap (λ w. shown w u) (at-most-one h q r s d e), refl)
+-- 01, Where a record is turned away: an accepted record uses length + 2 bytes
+abbrev pub recordUsed : Fed → ℕ
+recordUsed f = lengthField (f .bytes) + 2
 
--- ---- a life of calls
+-- 01, The book: its result of a call, and what it holds then
+pub data Book (h : Held) (f : Fed) : Result → Held → Type 0 where
+  -- a call is refused with the lowest number that applies; refused calls change nothing
+  refused : {n : ℕ} → judgement h f ≡ Tested.Refused n → Book h f (plain (Answer.Refused n) (usedFor n (f .bytes))) h
+  -- nor does end
+  ended : judgement h f ≡ Tested.Passed → length (f .bytes) ≡ 0 → Book h f (plain Answer.End 0) h
+  -- RESET empties both lists
+  emptied : Accepted h f Empties → Book h f (plain Answer.Done (recordUsed f)) emptyHeld
+  -- kinds 2 to 5 add their rule at the end of its list, kinds 6 and 7 their mark
+  added : {ρ : Rule} → Accepted h f (Adds ρ) → Book h f (plain Answer.Done (recordUsed f)) (withRules h (h .rules ++ (ρ ∷ [])))
+  put : {m : Mark} → Accepted h f (Puts m) → Book h f (plain Answer.Done (recordUsed f)) (withMarks h (h .marks ++ (m ∷ [])))
+  -- kinds 8 and 9 strike the mark with the same fields; those behind it move up
+  struck : {m : Mark} → Accepted h f (Takes m) → Book h f (plain Answer.Done (recordUsed f)) (withMarks h (strike (sameMark m) (h .marks)))
+  -- questions change nothing; what is held and the interpretations that satisfy it decide them
+  answered : {q : Question} (r : Reply) → Accepted h f (Asks q) → Decides h q r → Book h f (shown r (recordUsed f)) h
 
--- what a call is lent: tables and span buffer of any content and length; the block's memory from its start, at any length, with anything behind it
-pub record Lending : Type 0 where
-  pub labels : List ℕ
-  pub links : List ℕ
-  pub spans : List ℤ
-  pub lend : ℕ
-  pub behind : List ℕ
-
-abbrev pub lentTo : List ℕ → Lending → Buffers
-lentTo mem c = lent (take (c .lend) (mem ++ c .behind)) (c .labels) (c .links) (c .spans)
-
--- the memory after the lent part of it became b
-abbrev pub kept : List ℕ → Lending → List ℕ → List ℕ
-kept mem c b = take SIZE (b ++ drop (c .lend) (mem ++ c .behind))
-
-abbrev pub fed : Lending → List ℕ → Fed
-fed c s = record {
-  bytes = s;
-  block = min (c .lend) (SIZE + length (c .behind));
-  labels = length (c .labels);
-  links = length (c .links);
-  spans = length (c .spans);
-}
-
-abbrev pub resultOf : After → Result
-resultOf a = record { answer = a .answer; used = a .used; pairs = pairsOf (a .answer) (a .buffers .spans) }
+-- 01, The book: both lists are empty at first; so much it can hold
+pub data Entered : Held → Type 0 where
+  at-first : Entered emptyHeld
+  after-call : {h k : Held} (f : Fed) (r : Result) → Entered h → Book h f r k → Entered k

@@ -2,34 +2,35 @@
 use mathlib.Core.Path.{_≡_, refl}
 use mathlib.Core.List.{List}
 use Prim.Native.Nat.{ℕ}
-use native.Mathlib.Omega.{arith}
 use lib.ListN.{length}
 use Rattle.terms.specs.declared.Answer.{Answer}
 use Rattle.terms.specs.declared.Answer.the-variants as Answer
 use Rattle.terms.specs.declared.Tested.{Tested}
 use Rattle.terms.specs.declared.Tested.the-variants as Tested
-use Rattle.terms.specs.Refusals.{tested, onTested}
+use Rattle.terms.specs.Refusals.{tested}
+use Rattle.terms.specs.Otherwise.{onTested}
 use Rattle.terms.specs.Held.{Held}
 use Rattle.block.specs.Block.{readHeld}
 use Rattle.records.specs.Records.{parse}
-use Rattle.decide.specs.Decide.{Yes, No, Spans, Reply, Contradiction, Answered, answer}
-use Rattle.service.specs.Call.{Buffers, after, lentTests, Outcome, Refused, Ended, Changed, Asked, judged, replied, effect, call}
+use Rattle.decide.specs.Answer.{answer}
+use Rattle.decide.specs.Decides.{Yes, No, Spans, Reply, Contradiction, Answered}
+use Rattle.claims.specs.Ascending.{differ}
+use Rattle.claims.specs.Memory.{Keeps}
+use Rattle.service.specs.Call.{lentTests, Outcome, Refused, Ended, Changed, Asked, judged, replied, effect, call}
+use Rattle.service.specs.Buffers.{Buffers, after}
 
 -- ---- what an answer leaves
 
-clash : {A : Type 0} → _≡_ {A = ℕ} 0 1 → A
-clash e = let z : ⊥ = omega arith in absurd z
-
 replied-refused : (h : Held) (m : Buffers) (u n : ℕ) (r : Reply) → replied h m u r .answer ≡ Answer.Refused n → replied h m u r .buffers ≡ m
-replied-refused h m u n (Contradiction a) e = clash (cc)
-replied-refused h m u n (Answered Yes) e = clash (cc)
-replied-refused h m u n (Answered No) e = clash (cc)
-replied-refused h m u n (Answered (Spans rs)) e = clash (cc)
+replied-refused h m u n (Contradiction a) e = differ (cc)
+replied-refused h m u n (Answered Yes) e = differ (cc)
+replied-refused h m u n (Answered No) e = differ (cc)
+replied-refused h m u n (Answered (Spans rs)) e = differ (cc)
 
 effect-refused : (h : Held) (m : Buffers) (o : Outcome) (n : ℕ) → effect h m o .answer ≡ Answer.Refused n → effect h m o .buffers ≡ m
 effect-refused h m (Refused k u) n e = refl
 effect-refused h m Ended n e = refl
-effect-refused h m (Changed k u) n e = clash (cc)
+effect-refused h m (Changed k u) n e = differ (cc)
 effect-refused h m (Asked q u) n e = replied-refused h m u n (answer h q) e
 
 -- 01, Where a record is turned away: refusals leave all lent memory unchanged
@@ -46,26 +47,20 @@ refused-keeps m s n = go (tested (lentTests m))
     go Tested.Passed e = effect-refused h m (judged h (parse (h .settings) s)) n e
     go (Tested.Refused k) e = refl
 
--- what an answer keeps: only done changes the block, and done leaves the tables; only spans write the span buffer; end changes nothing
-pub record Keeps (a : Answer) (m after : Buffers) : Type 0 where
-  pub block : (a ≡ Answer.Done → ⊥) → after .block ≡ m .block
-  pub tables : a ≡ Answer.Done → (after .labels ≡ m .labels) × (after .links ≡ m .links)
-  pub spans : ((n : ℕ) → a ≡ Answer.Spans n → ⊥) → after .spans ≡ m .spans
-  pub ended : a ≡ Answer.End → after ≡ m
-
 reply-keeps : (h : Held) (m : Buffers) (u : ℕ) (r : Reply) → Keeps (replied h m u r .answer) m (replied h m u r .buffers)
-reply-keeps h m u (Contradiction a) = record { block = λ f. refl; tables = λ e. clash (cc); spans = λ f. refl; ended = λ e. clash (cc) }
-reply-keeps h m u (Answered Yes) = record { block = λ f. refl; tables = λ e. clash (cc); spans = λ f. refl; ended = λ e. clash (cc) }
-reply-keeps h m u (Answered No) = record { block = λ f. refl; tables = λ e. clash (cc); spans = λ f. refl; ended = λ e. clash (cc) }
+reply-keeps h m u (Contradiction a) = record { block = λ f. refl; tables = λ e. differ (cc); spans = λ f. refl; ended = λ e. differ (cc) }
+reply-keeps h m u (Answered Yes) = record { block = λ f. refl; tables = λ e. differ (cc); spans = λ f. refl; ended = λ e. differ (cc) }
+reply-keeps h m u (Answered No) = record { block = λ f. refl; tables = λ e. differ (cc); spans = λ f. refl; ended = λ e. differ (cc) }
 reply-keeps h m u (Answered (Spans rs)) =
-    record { block = λ f. refl; tables = λ e. clash (cc); spans = λ f. absurd (f (length rs) refl); ended = λ e. clash (cc) }
+    record { block = λ f. refl; tables = λ e. differ (cc); spans = λ f. absurd (f (length rs) refl); ended = λ e. differ (cc) }
 
 effect-keeps : (h : Held) (m : Buffers) (o : Outcome) → Keeps (effect h m o .answer) m (effect h m o .buffers)
-effect-keeps h m (Refused n u) = record { block = λ f. refl; tables = λ e. clash (cc); spans = λ f. refl; ended = λ e. refl }
-effect-keeps h m Ended = record { block = λ f. refl; tables = λ e. clash (cc); spans = λ f. refl; ended = λ e. refl }
-effect-keeps h m (Changed k u) = record { block = λ f. absurd (f refl); tables = λ e. (refl, refl); spans = λ f. refl; ended = λ e. clash (cc) }
+effect-keeps h m (Refused n u) = record { block = λ f. refl; tables = λ e. differ (cc); spans = λ f. refl; ended = λ e. refl }
+effect-keeps h m Ended = record { block = λ f. refl; tables = λ e. differ (cc); spans = λ f. refl; ended = λ e. refl }
+effect-keeps h m (Changed k u) = record { block = λ f. absurd (f refl); tables = λ e. (refl, refl); spans = λ f. refl; ended = λ e. differ (cc) }
 effect-keeps h m (Asked q u) = reply-keeps h m u (answer h q)
 
+-- 01, State and tables: what each answer leaves
 pub call-keeps : (m : Buffers) (s : List ℕ) → Keeps (call m s .answer) m (call m s .buffers)
 unfolding call
 call-keeps m s = go (tested (lentTests m))
@@ -77,4 +72,4 @@ call-keeps m s = go (tested (lentTests m))
         (t : Tested) → let r = onTested (effect h m (judged h (parse (h .settings) s))) (λ n. after (Answer.Refused n) 0 m) t in
         Keeps (r .answer) m (r .buffers)
     go Tested.Passed = effect-keeps h m (judged h (parse (h .settings) s))
-    go (Tested.Refused k) = record { block = λ f. refl; tables = λ e. clash (cc); spans = λ f. refl; ended = λ e. refl }
+    go (Tested.Refused k) = record { block = λ f. refl; tables = λ e. differ (cc); spans = λ f. refl; ended = λ e. refl }

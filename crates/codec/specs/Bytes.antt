@@ -1,4 +1,4 @@
--- Little-endian numbers in a list of bytes, over the width in bytes. Assumes nothing.
+-- Little-endian numbers in a list of bytes, over the width in bytes; two's complement is the kit's, `toZ` and `ofZ`.
 use Prim.Native.Nat.{ℕ, zero, suc, _+_, _*_, _/_, _%_}
 use mathlib.Core.List.{List, [], _∷_, _++_}
 use lib.ListN.{length, getD, take, drop}

@@ -12,10 +12,22 @@ use Rattle.terms.specs.declared.Mark.{Mark}
 use Rattle.terms.specs.Order.{ints}
 use Rattle.terms.specs.Limits.{CUTS}
 use Rattle.terms.specs.Held.{_∈_, Held}
-use Rattle.terms.specs.Same.{sameDepth, same-depth, depth-same}
+use Rattle.terms.specs.Same.{sameDepth}
+use Rattle.terms.specs.SameLaws.{same-depth, depth-same}
 use Rattle.terms.specs.Lists.{some, depthCount}
-use Rattle.line.specs.Cuts.{Asc, insert, insert-has, insert-keeps, insert-asc, insert-again, Inserted}
-use Rattle.line.specs.Cuts.{was-there, one-more, inserted, depthsOf, depths-only, cuts-few}
+use Rattle.line.specs.Cuts.{Asc, insert, depthsOf}
+use Rattle.line.specs.CutLaws.{
+  insert-has,
+  insert-keeps,
+  insert-asc,
+  insert-again,
+  Inserted,
+  was-there,
+  one-more,
+  inserted,
+  depths-only,
+  cuts-few,
+}
 use Rattle.line.specs.Intervals.{cutsOf}
 use Rattle.terms.specs.Limited.{some-in, in-some, Limited}
 

@@ -1,4 +1,4 @@
--- What marks and rules decide, by the interpretations that satisfy them; at most one reply; and the reply, computed. Assumes nothing.
+-- A question has at most one reply, the computed one is decided, and it says what the least model says. Assumes nothing.
 use mathlib.Core.Path.{_≡_, refl, sym, ap, _∙_, subst}
 use mathlib.Core.Logic.{_⊎_, inl, inr, _↔_}
 use mathlib.Core.Bool.{Bool, true, false, cond, true≢false}
@@ -16,53 +16,25 @@ use Rattle.terms.specs.declared.Question.the-variants as Question
 use Rattle.terms.specs.Order.{ints}
 use Rattle.terms.specs.Tests.{and-both, or-one, true-of, of-true, false-of, neither}
 use Rattle.terms.specs.Limits.{ITEMS, NEVER, NO-TOP, NO-BOTTOM, isDepth}
-use Rattle.terms.specs.Held.{_∈_, Held, InRange, isMarkable}
+use Rattle.terms.specs.Held.{_∈_, Held, isMarkable}
+use Rattle.terms.specs.Limited.{InRange}
 use Rattle.terms.specs.Model.{by-mark, by-every, by-rule}
 use Rattle.terms.specs.Depths.{Derived}
-use Rattle.terms.specs.Interpretations.{Interpretation, Satisfies, true-in-all}
+use Rattle.terms.specs.Interpretations.{Interpretation, Satisfies}
+use Rattle.terms.specs.Entailed.{true-in-all}
 use Rattle.terms.specs.Spans.{Run, Longest}
-use Rattle.line.specs.Cuts.{upto-length, cuts-asc}
-use Rattle.line.specs.Intervals.{cutsOf, interval, count, met}
+use Rattle.line.specs.CutLaws.{upto-length, cuts-asc}
+use Rattle.line.specs.Intervals.{cutsOf, interval, count}
+use Rattle.line.specs.IntervalLaws.{met}
 use Rattle.line.specs.Code.{cuts-within}
 use Rattle.spans.specs.Runs.{runs}
 use Rattle.spans.specs.Longest.{longest-one, runs-longest}
 use Rattle.verdicts.specs.Reading.{anyBelow, Lookup, absent, first, lowestOf}
-use Rattle.tables.specs.Saturate.{Fact, fact, mem}
-use Rattle.tables.specs.Executed.{model, exact, exact-at}
-
-pub data Verdict : Type 0 where
-  Yes No : Verdict
-  Spans : List Run → Verdict
-
-pub data Reply : Type 0 where
-  Contradiction : ℕ → Reply
-  Answered : Verdict → Reply
-
-pub record Lowest (h : Held) (a : ℕ) : Type 0 where
-  pub item : a < ITEMS
-  pub depth : ℤ
-  pub never : Derived h (Has a NEVER) depth
-  pub lower : (b : ℕ) (i : ℤ) → b < a → Derived h (Has b NEVER) i → ⊥
-
-abbrev pub Some : Held → Type 0
-Some h = (D : Interpretation) × Satisfies h D
-
--- true in all
-abbrev pub InAll : Held → Atom → ℤ → Type 0
-InAll h x i = (D : Interpretation) → Satisfies h D → D x i ≡ true
-
-abbrev pub Says : Held → Question → Verdict → Type 0
-Says h (Question.Holds x i) Yes = InAll h x i
-Says h (Question.Holds x i) No = (D : Interpretation) × Satisfies h D × (D x i ≡ false)
-Says h (Question.Holds x i) (Spans rs) = ⊥
-Says h (Question.Spans a A) Yes = ⊥
-Says h (Question.Spans a A) No = ⊥
-Says h (Question.Spans a A) (Spans rs) = Longest (λ i. InAll h (Has a A) i) rs
-
--- demand 3
-abbrev pub Decides : Held → Question → Reply → Type 0
-Decides h q (Contradiction a) = (Some h → ⊥) × Lowest h a
-Decides h q (Answered v) = Some h × Says h q v
+use Rattle.tables.specs.Saturate.{fact, mem}
+use Rattle.tables.specs.Executed.{model}
+use Rattle.tables.specs.ExecutedLaws.{exact, exact-at}
+use Rattle.decide.specs.Decides.{Verdict, Yes, No, Spans, Reply, Contradiction, Answered, Never, Lowest, InAll, Says, Decides}
+use Rattle.decide.specs.Answer.{clashes, clashOr, verdict, answer}
 
 -- ---- at most one reply
 
@@ -97,22 +69,7 @@ at-most-one h q (Contradiction a) (Answered w) d e = absurd (d .0 (e .0))
 at-most-one h q (Answered v) (Contradiction b) d e = absurd (e .0 (d .0))
 at-most-one h q (Answered v) (Answered w) d e = ap Answered (says-one h q v w (d .1) (e .1))
 
--- ---- the answer
-
--- item a has NEVER somewhere
-abbrev pub clashes : Held → List Fact → ℕ → Bool
-clashes h fs a = anyBelow (count h) (λ p. mem (fact (Has a NEVER) p) fs)
-
-abbrev pub clashOr : Lookup → Verdict → Reply
-clashOr absent v = Answered v
-clashOr (first a) v = Contradiction a
-
-abbrev pub verdict : Held → List Fact → Question → Verdict
-verdict h fs (Question.Holds x i) = cond (mem (fact x (interval h i)) fs) Yes No
-verdict h fs (Question.Spans a A) = Spans (runs (cutsOf h) (λ p. mem (fact (Has a A) p) fs))
-
-unfoldable pub answer : Held → Question → Reply
-answer h q = let fs = model h in let v = verdict h fs q in clashOr (lowestOf (clashes h fs) ITEMS 0) v
+-- ---- the answer decides
 
 data Looked (f : ℕ → Bool) (n a : ℕ) : Lookup → Type 0 where
   none-there : ((b : ℕ) → a ≤ b → b < a + n → f b ≡ false) → Looked f n a absent
@@ -136,6 +93,15 @@ looked f (suc n) a = go (f a) refl (looked f n (suc a))
     go : (t : Bool) → f a ≡ t → Looked f n (suc a) (lowestOf f n (suc a)) → Looked f (suc n) a (elim t [ true ↦ first a | false ↦ lowestOf f n (suc a) ])
     go true e w = first-there a (omega arith) (omega arith) e (λ c h l. let z : ⊥ = omega arith in absurd z)
     go false e w = more e w
+
+-- contradiction names one of the items, whatever is held
+pub contradiction-item : (h : Held) (q : Question) (a : ℕ) → answer h q ≡ Contradiction a → a < ITEMS
+unfolding answer
+contradiction-item h q a = go (looked (clashes h (model h)) ITEMS 0)
+  where
+    go : {l : Lookup} → Looked (clashes h (model h)) ITEMS 0 l → clashOr l (verdict h (model h) q) ≡ Contradiction a → a < ITEMS
+    go (none-there k) e = let z : _≡_ {A = ℕ} 0 1 = cc in let w : ⊥ = omega arith in absurd w
+    go (first-there b u l m k) e = let f : b ≡ a = cc in omega (arith, f)
 
 any-yes : (n : ℕ) (f : ℕ → Bool) → anyBelow n f ≡ true → (p : ℕ) × (p < n) × T (f p)
 any-yes zero f e = absurd (true≢false (sym e))
@@ -219,12 +185,8 @@ module _ (h : Held) (R : InRange h) where
 
   -- ---- demand 2: the same by the least model
 
-  -- no item has NEVER anywhere
-  pub record NoNever : Type 0 where
-    pub none : (a : ℕ) (i : ℤ) → a < ITEMS → Derived h (Has a NEVER) i → ⊥
-
   pub data Cases (q : Question) : Reply → Type 0 where
-    clear : NoNever → Cases q (Answered (verdict h (model h) q))
+    clear : (Never h → ⊥) → Cases q (Answered (verdict h (model h) q))
     clashing : (a : ℕ) → Lowest h a → Cases q (Contradiction a)
 
   pub reply-cases : (q : Question) → Cases q (answer h q)
@@ -232,13 +194,13 @@ module _ (h : Held) (R : InRange h) where
   reply-cases q = go (looked (clashes h (model h)) ITEMS 0)
     where
       go : {r : Lookup} → Looked (clashes h (model h)) ITEMS 0 r → Cases q (clashOr r (verdict h (model h) q))
-      go (none-there k) = clear (record { none = λ a i l d. no-clash a i (k a (omega arith) (omega arith)) d })
+      go (none-there k) = clear (λ n. no-clash (n .item) (n .depth) (k (n .item) (omega arith) (omega (arith, n .named))) (n .has))
       go (first-there a u l e k) =
           let (d, n) = clash-least a e in
           clashing a (record { item = omega arith; depth = d; never = n; lower = λ b i v m. no-clash b i (k b (omega arith) v) m })
 
-  never-lowest : NoNever → (a : ℕ) → Lowest h a → ⊥
-  never-lowest N a l = N .none a (l .depth) (l .item) (l .never)
+  never-lowest : (Never h → ⊥) → (a : ℕ) → Lowest h a → ⊥
+  never-lowest N a l = N (record { item = a; depth = l .depth; named = l .item; has = l .never })
 
   -- contradiction exactly if some item has NEVER, the lowest of them named
   pub contradiction-exactly : (q : Question) (a : ℕ) → (answer h q ≡ Contradiction a) ↔ Lowest h a
@@ -253,38 +215,39 @@ module _ (h : Held) (R : InRange h) where
       back (clashing b k) l = ap Contradiction (lowest-one h b a k l)
 
   -- yes exactly if no item has NEVER and the statement is in the least model; no exactly if it is not in it
-  pub yes-exactly : (x : Atom) (i : ℤ) → (answer h (Question.Holds x i) ≡ Answered Yes) ↔ (NoNever × Derived h x i)
+  pub yes-exactly : (x : Atom) (i : ℤ) → (answer h (Question.Holds x i) ≡ Answered Yes) ↔ ((Never h → ⊥) × Derived h x i)
   yes-exactly x i = (λ e. there (reply-cases (Question.Holds x i)) e, λ w. back (reply-cases (Question.Holds x i)) w)
     where
       said-yes : (b : Bool) → Path Reply (Answered (cond b Yes No)) (Answered Yes) → b ≡ true
       said-yes true e = refl
       said-yes false e = let z : _≡_ {A = ℕ} 0 1 = cc in let w : ⊥ = omega arith in absurd w
 
-      there : {r : Reply} → Cases (Question.Holds x i) r → r ≡ Answered Yes → NoNever × Derived h x i
+      there : {r : Reply} → Cases (Question.Holds x i) r → r ≡ Answered Yes → (Never h → ⊥) × Derived h x i
       there (clear N) e = (N, held x i (said-yes (table x i) e))
       there (clashing b l) e = let z : _≡_ {A = ℕ} 0 1 = cc in let w : ⊥ = omega arith in absurd w
 
-      back : {r : Reply} → Cases (Question.Holds x i) r → NoNever × Derived h x i → r ≡ Answered Yes
+      back : {r : Reply} → Cases (Question.Holds x i) r → (Never h → ⊥) × Derived h x i → r ≡ Answered Yes
       back (clear N) w = ap (λ b. Answered (cond b Yes No)) (said (w .1))
       back (clashing b l) w = absurd (never-lowest (w .0) b l)
 
-  pub no-exactly : (x : Atom) (i : ℤ) → (answer h (Question.Holds x i) ≡ Answered No) ↔ (NoNever × (Derived h x i → ⊥))
+  pub no-exactly : (x : Atom) (i : ℤ) → (answer h (Question.Holds x i) ≡ Answered No) ↔ ((Never h → ⊥) × (Derived h x i → ⊥))
   no-exactly x i = (λ e. there (reply-cases (Question.Holds x i)) e, λ w. back (reply-cases (Question.Holds x i)) w)
     where
       said-no : (b : Bool) → Path Reply (Answered (cond b Yes No)) (Answered No) → b ≡ false
       said-no false e = refl
       said-no true e = let z : _≡_ {A = ℕ} 0 1 = cc in let w : ⊥ = omega arith in absurd w
 
-      there : {r : Reply} → Cases (Question.Holds x i) r → r ≡ Answered No → NoNever × (Derived h x i → ⊥)
+      there : {r : Reply} → Cases (Question.Holds x i) r → r ≡ Answered No → (Never h → ⊥) × (Derived h x i → ⊥)
       there (clear N) e = (N, λ d. clash (said d) (said-no (table x i) e))
       there (clashing b l) e = let z : _≡_ {A = ℕ} 0 1 = cc in let w : ⊥ = omega arith in absurd w
 
-      back : {r : Reply} → Cases (Question.Holds x i) r → NoNever × (Derived h x i → ⊥) → r ≡ Answered No
+      back : {r : Reply} → Cases (Question.Holds x i) r → (Never h → ⊥) × (Derived h x i → ⊥) → r ≡ Answered No
       back (clear N) w = ap (λ b. Answered (cond b Yes No)) (false-of (table x i) (λ t. w .1 (held x i (true-of (table x i) t))))
       back (clashing b l) w = absurd (never-lowest (w .0) b l)
 
   -- a list of spans covers exactly the depths where the label is in the least model
-  pub spans-exactly : (a A : ℕ) (rs : List Run) → (answer h (Question.Spans a A) ≡ Answered (Spans rs)) ↔ (NoNever × Longest (λ i. Derived h (Has a A) i) rs)
+  pub spans-exactly : (a A : ℕ) (rs : List Run) →
+      (answer h (Question.Spans a A) ≡ Answered (Spans rs)) ↔ ((Never h → ⊥) × Longest (λ i. Derived h (Has a A) i) rs)
   spans-exactly a A rs = (λ e. there (reply-cases (Question.Spans a A)) e, λ w. back (reply-cases (Question.Spans a A)) w)
     where
       has : ℕ → Bool
@@ -295,10 +258,19 @@ module _ (h : Held) (R : InRange h) where
           let L = runs-longest (cutsOf h) (cuts-asc (h .marks)) ranged has in
           record { apart = L .apart; exact = λ i. (λ c. exact h (Has a A) i .0 (L .exact i .0 c), λ d. L .exact i .1 (exact h (Has a A) i .1 d)) }
 
-      there : {r : Reply} → Cases (Question.Spans a A) r → r ≡ Answered (Spans rs) → NoNever × Longest (λ i. Derived h (Has a A) i) rs
+      there : {r : Reply} → Cases (Question.Spans a A) r → r ≡ Answered (Spans rs) → (Never h → ⊥) × Longest (λ i. Derived h (Has a A) i) rs
       there (clear N) e = let f : runs (cutsOf h) has ≡ rs = cc in (N, subst (Longest (λ i. Derived h (Has a A) i)) f longest)
       there (clashing b l) e = let z : _≡_ {A = ℕ} 0 1 = cc in let w : ⊥ = omega arith in absurd w
 
-      back : {r : Reply} → Cases (Question.Spans a A) r → NoNever × Longest (λ i. Derived h (Has a A) i) rs → r ≡ Answered (Spans rs)
+      back : {r : Reply} → Cases (Question.Spans a A) r → (Never h → ⊥) × Longest (λ i. Derived h (Has a A) i) rs → r ≡ Answered (Spans rs)
       back (clear N) w = ap (λ l. Answered (Spans l)) (longest-one (λ i. Derived h (Has a A) i) (runs (cutsOf h) has) rs longest (w .1))
       back (clashing b l) w = absurd (never-lowest (w .0) b l)
+
+  -- and is given exactly if no item has NEVER
+  pub clear-spans : (a A : ℕ) → ((rs : List Run) × (answer h (Question.Spans a A) ≡ Answered (Spans rs))) ↔ (Never h → ⊥)
+  clear-spans a A = (λ w. spans-exactly a A (w .0) .0 (w .1) .0, λ N. go N (reply-cases (Question.Spans a A)) refl)
+    where
+      go : (Never h → ⊥) → {r : Reply} → Cases (Question.Spans a A) r → answer h (Question.Spans a A) ≡ r →
+          (rs : List Run) × (answer h (Question.Spans a A) ≡ Answered (Spans rs))
+      go N (clear k) e = (runs (cutsOf h) (λ p. mem (fact (Has a A) p) (model h)), e)
+      go N (clashing b l) e = absurd (never-lowest N b l)

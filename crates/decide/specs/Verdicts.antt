@@ -1,9 +1,8 @@
 -- What the lent tables say, read as the answer. Assumes nothing.
 use mathlib.Core.Path.{_≡_, refl, sym, ap, _∙_, subst}
-use mathlib.Core.Logic.{_⊎_, inl, inr}
 use mathlib.Core.Bool.{Bool, true, false, cond, _||_}
 use mathlib.Core.List.{List, _∷_, _++_}
-use Prim.Native.Nat.{ℕ, zero, suc, pred, _≤_, _<_, _+_, _*_, _/_, _%_}
+use Prim.Native.Nat.{ℕ, zero, suc, pred, _≤_, _<_, _+_, _*_}
 use native.Mathlib.Omega.{arith}
 use native.Mathlib.Decide.{decLt}
 use lib.Dec.{T, eqb}
@@ -15,24 +14,25 @@ use Rattle.terms.specs.declared.Question.{Question}
 use Rattle.terms.specs.declared.Question.the-variants as Question
 use Rattle.terms.specs.declared.Answer.{Answer}
 use Rattle.terms.specs.declared.Answer.the-variants as Answer
-use Rattle.terms.specs.Tests.{of-true}
-use Rattle.terms.specs.Limits.{ITEMS, LABELS, KINDS, NEVER, CUTS, INTERVALS, LABEL-ENTRIES, LINK-ENTRIES}
+use Rattle.terms.specs.Limits.{ITEMS, LABELS, KINDS, NEVER, CUTS, INTERVALS}
 use Rattle.terms.specs.Held.{Held, isStatement, isQuestion}
 use Rattle.words.specs.Bit.{bitAt}
-use Rattle.line.specs.Cuts.{upto, upto-length, top-of, bottom-of}
+use Rattle.line.specs.Cuts.{upto, top-of, bottom-of}
+use Rattle.line.specs.CutLaws.{upto-length}
 use Rattle.rows.proofs.Laws.{true-false}
 use Rattle.terms.specs.Spans.{Run, run}
 use Rattle.line.specs.Intervals.{cutsOf, interval, count}
 use Rattle.steps.specs.Concluded.{label-names, link-names}
-use Rattle.tables.specs.Saturate.{fact, mem, mem→∈}
-use Rattle.tables.specs.Executed.{model, model-low}
-use Rattle.tables.specs.Tables.{bit-of, behind-absent, labelEntry, linkEntry, labelTable, linkTable, label-entry, link-entry}
-use Rattle.tables.specs.Bridge.{length-entries}
+use Rattle.tables.specs.Saturate.{fact, mem}
+use Rattle.tables.specs.Executed.{model}
+use Rattle.tables.specs.Tables.{labelEntry, linkEntry, labelTable, linkTable}
+use Rattle.tables.specs.TableLaws.{bit-of, behind-absent, label-entry, link-entry, length-labels, length-links}
 use Rattle.spans.specs.Longest.{runs-fit}
 use Rattle.spans.specs.Runs.{Begun, outside, since, runsFrom, runs, hasLabel}
 use Rattle.verdicts.specs.Reading.{anyBelow, Lookup, absent, first, lowestOf, neverIn, clashOf, holdsIn}
 use Rattle.verdicts.specs.declared.Clash.the-variants as Clash
-use Rattle.decide.specs.Decide.{Verdict, Yes, No, Spans, Reply, Contradiction, Answered, clashes, clashOr, verdict, answer}
+use Rattle.decide.specs.Answer.{clashes, clashOr, verdict, answer}
+use Rattle.decide.specs.Decides.{Verdict, Yes, No, Spans, Reply, Contradiction, Answered}
 
 -- a reply as an answer
 abbrev pub answerOf : Reply → Answer
@@ -46,15 +46,6 @@ answerOf (Answered (Spans rs)) = Answer.Spans (length rs)
 one-or-not : (b : Bool) (x : ℕ) → x ≡ cond b 1 0 → eqb x 1 ≡ b
 one-or-not true x e = ap (λ v. eqb v 1) e
 one-or-not false x e = ap (λ v. eqb v 1) e
-
--- 01, State and tables: how long the tables are
-pub length-labels : (h : Held) → length (labelTable h) ≡ LABEL-ENTRIES
-unfolding labelTable
-length-labels h = length-entries (λ e. labelEntry (model h) (e / INTERVALS) (e % INTERVALS)) LABEL-ENTRIES 0
-
-pub length-links : (h : Held) → length (linkTable h) ≡ LINK-ENTRIES
-unfolding linkTable
-length-links h = length-entries (λ e. linkEntry (model h) (e / INTERVALS / ITEMS) (e / INTERVALS % ITEMS) (e % INTERVALS)) LINK-ENTRIES 0
 
 module _ (h : Held) (few : length (cutsOf h) ≤ CUTS) where
   label-bit : (t : List ℕ) (a A p : ℕ) → a < ITEMS → A < LABELS → p < INTERVALS → hasLabel (labelTable h ++ t) a A p ≡ mem (fact (Has a A) p) (model h)

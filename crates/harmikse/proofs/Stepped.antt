@@ -13,11 +13,12 @@ use lib.Seq.{drop-drop}
 use Rattle.terms.specs.declared.Answer.{Answer}
 use Rattle.terms.specs.declared.Answer.the-variants as Answer
 use Rattle.terms.specs.Tests.{of-true}
-use Rattle.terms.specs.Answers.{pairCount}
+use Rattle.terms.specs.Pairs.{pairCount}
 use Rattle.terms.specs.Limits.{LABEL-ENTRIES, LINK-ENTRIES, SPAN-NUMBERS}
 use Rattle.block.specs.Layout.{zeros}
-use Rattle.block.specs.Block.{SIZE}
-use Rattle.service.specs.Call.{Buffers, lent, After, after, call}
+use Rattle.block.specs.Layout.{SIZE}
+use Rattle.service.specs.Call.{call}
+use Rattle.service.specs.Buffers.{Buffers, lent, After, after}
 use Rattle.lines.specs.Lines.{lineText}
 use Rattle.harmikse.specs.Program.{LIMIT, fresh, goesOn, begun, handled, Prints, line-of, Whole, at-end, at-refusal-3}
 use Rattle.harmikse.specs.Code.{isEnd, On, Runs}

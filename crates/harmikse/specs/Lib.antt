@@ -2,4 +2,4 @@ pub mod Program
 pub mod Code
 pub mod Uses
 pub mod Reached
-pub mod Lines
+pub mod LineLaws

@@ -10,8 +10,9 @@ use Rattle.terms.specs.declared.Answer.{Answer}
 use Rattle.terms.specs.declared.Answer.the-variants as Answer
 use Rattle.terms.specs.Limits.{LABEL-ENTRIES, LINK-ENTRIES, SPAN-NUMBERS}
 use Rattle.block.specs.Layout.{zeros}
-use Rattle.block.specs.Block.{SIZE}
-use Rattle.service.specs.Call.{Buffers, lent, call}
+use Rattle.block.specs.Layout.{SIZE}
+use Rattle.service.specs.Call.{call}
+use Rattle.service.specs.Buffers.{Buffers, lent}
 use Rattle.lines.specs.Lines.{codes, lineText}
 
 -- 01, The program's lines: input is at most so many bytes
@@ -22,7 +23,7 @@ LIMIT = 65_536
 abbrev pub tooLong : List ℕ
 tooLong = codes "input too long\n"
 
--- 01, State and tables: what the program lends at first, zeros of the least lengths
+-- what the program lends at first: the empty state, and tables and span buffer of the least lengths
 unfoldable pub fresh : Buffers
 fresh = lent (zeros SIZE) (zeros LABEL-ENTRIES) (zeros LINK-ENTRIES) (replicate SPAN-NUMBERS (pos 0))
 

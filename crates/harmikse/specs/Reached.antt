@@ -14,28 +14,32 @@ use lib.Seq.{take-all, take-at}
 use Rattle.terms.specs.declared.Answer.{Answer}
 use Rattle.terms.specs.declared.Answer.the-variants as Answer
 use Rattle.terms.specs.Tests.{true-of}
-use Rattle.terms.specs.Answers.{pairCount}
+use Rattle.terms.specs.Pairs.{pairCount}
 use Rattle.terms.specs.Limits.{LABEL-ENTRIES, LINK-ENTRIES, SPAN-NUMBERS}
 use Rattle.terms.specs.Refusals.{rank, Test, test}
 use Rattle.terms.specs.Held.{_∈_, Held}
 use Rattle.terms.specs.Limited.{Limited, of-limited}
-use Rattle.state.specs.Changes.{emptyHeld}
+use Rattle.terms.specs.Held.{emptyHeld}
 use Rattle.block.specs.Layout.{zeros}
-use Rattle.block.specs.Block.{SIZE, encode, readHeld, good}
+use Rattle.block.specs.Block.{readHeld, good}
+use Rattle.block.specs.Layout.{SIZE, encode}
 use Rattle.records.specs.Records.{parse}
-use Rattle.service.specs.Call.{Buffers, lent, short, judged, effect, call}
+use Rattle.service.specs.Call.{judged, effect, call}
+use Rattle.service.specs.Buffers.{Buffers, lent, short}
 use Rattle.claims.specs.Kept.{empty-limited}
-use Rattle.claims.specs.Reference.{outcome, Lending, lentTo, fed}
+use Rattle.claims.specs.Lives.{Lending, lentTo, fed}
+use Rattle.claims.specs.Told.{outcome}
 use Rattle.claims.specs.Life.{Then, call-then}
 use Rattle.claims.specs.Whole.{laws}
 use Rattle.claims.specs.Lent.{call-lent}
 use Rattle.claims.specs.Ascending.{in-range}
-use Rattle.claims.specs.Refused.{inputTests, tests, tests-ascend, refused-lowest, two-by-block}
+use Rattle.claims.specs.Refused.{rows-ascend, refused-lowest, two-by-block}
+use Rattle.claims.specs.Table.{inputRows}
 use Rattle.harmikse.specs.Program.{fresh, Reaches, begun, handled}
 use Rattle.harmikse.specs.Uses.{Within, record-uses}
 
 -- what is lent
-pub record Holding (m : Buffers) : Type 0 where
+pub record Fit (m : Buffers) : Type 0 where
   pub held : Held
   pub limited : Limited held
   pub block : m .block ≡ encode held
@@ -47,9 +51,9 @@ zeros-long : (n : ℕ) → length (zeros n) ≡ n
 unfolding zeros
 zeros-long n = length-replicate n 0
 
-fresh-holding : Holding fresh
+fresh-fit : Fit fresh
 unfolding fresh
-fresh-holding = record {
+fresh-fit = record {
   held = emptyHeld;
   limited = empty-limited;
   block = sym (laws .encode-empty);
@@ -58,7 +62,7 @@ fresh-holding = record {
   spans = length-replicate SPAN-NUMBERS (pos 0);
 }
 
-module _ (m : Buffers) (w : Holding m) where
+module _ (m : Buffers) (w : Fit m) where
   size : length (m .block) ≡ SIZE
   size = ap length (w .block) ∙ laws .length-encode (w .held) (w .limited)
 
@@ -73,8 +77,8 @@ module _ (m : Buffers) (w : Holding m) where
       ap (λ b. lent b (m .labels) (m .links) (m .spans)) all
 
   -- a call leaves such again
-  call-holding : (s : List ℕ) → Holding (call m s .buffers)
-  call-holding s =
+  call-fit : (s : List ℕ) → Fit (call m s .buffers)
+  call-fit s =
       let then =
       subst (λ x. Then laws (w .held) (m .block) lending (outcome (w .held) (fed lending s)) (call x s)) lent-same
       (call-then laws (w .held) (w .limited) (m .block) (w .block) lending s) in
@@ -115,38 +119,38 @@ module _ (m : Buffers) (w : Holding m) where
   -- ---- the numbers of lent memory never arise
 
   never-1 : (s : List ℕ) → call m s .answer ≡ Answer.Refused 1 → ⊥
-  unfolding tests rank
+  unfolding rank
   never-1 s e = let (t, i, a, n) = refused-lowest m s 1 e .0 in go t a n (List·Memᴰ·cases-cons i)
     where
-      rest : (t : Test) → t .number ≡ 1 → (t ≡ test (not (good (m .block))) 2) ⊎ (t ∈ inputTests (readHeld (m .block)) s) → ⊥
+      rest : (t : Test) → t .number ≡ 1 → (t ≡ test (not (good (m .block))) 2) ⊎ (t ∈ inputRows (readHeld (m .block)) s) → ⊥
       rest t n (inl f) = let z : _≡_ {A = ℕ} 2 1 = sym (ap (λ (v : Test). v .number) f) ∙ n in omega arith
       rest t n (inr i) =
-          let w = in-range 2 12 (inputTests (readHeld (m .block)) s) (tests-ascend m s .2 .2) t i .0 in
+          let w = in-range 2 12 (inputRows (readHeld (m .block)) s) (rows-ascend m s .2 .2) t i .0 in
           omega (arith, w, ap rank n)
 
       go :
           (t : Test) → T (t .applies) → t .number ≡ 1 →
-          (t ≡ test (short m) 1) ⊎ (t ∈ (test (not (good (m .block))) 2 ∷ inputTests (readHeld (m .block)) s)) → ⊥
+          (t ≡ test (short m) 1) ⊎ (t ∈ (test (not (good (m .block))) 2 ∷ inputRows (readHeld (m .block)) s)) → ⊥
       go t a n (inl f) = subst T (ap (λ (v : Test). v .applies) f ∙ long) a
       go t a n (inr i) = rest t n (List·Memᴰ·cases-cons i)
 
   never-2 : (s : List ℕ) → call m s .answer ≡ Answer.Refused 2 → ⊥
   never-2 s e = true≢false (sym block-good ∙ two-by-block m s .0 e .1)
 
-reached-holding : {input : List ℕ} {n : ℕ} {m : Buffers} {s : List ℕ} → Reaches input n m s → Holding m
-reached-holding begun = fresh-holding
-reached-holding (handled {m = m} {s = s} r g) = call-holding m (reached-holding r) s
+reached-fit : {input : List ℕ} {n : ℕ} {m : Buffers} {s : List ℕ} → Reaches input n m s → Fit m
+reached-fit begun = fresh-fit
+reached-fit (handled {m = m} {s = s} r g) = call-fit m (reached-fit r) s
 
 -- the numbers 1 and 2 never arise
 pub never-lent :
     {input : List ℕ} {n : ℕ} {m : Buffers} {s : List ℕ} → Reaches input n m s →
     (call m s .answer ≡ Answer.Refused 1 → ⊥) × (call m s .answer ≡ Answer.Refused 2 → ⊥)
-never-lent {m = m} {s = s} r = (never-1 m (reached-holding r) s, never-2 m (reached-holding r) s)
+never-lent {m = m} {s = s} r = (never-1 m (reached-fit r) s, never-2 m (reached-fit r) s)
 
 -- and each record uses a byte at least, of those left
 pub reached-uses :
     {input : List ℕ} {n : ℕ} {m : Buffers} {s : List ℕ} → Reaches input n m s → (call m s .answer ≡ Answer.End → ⊥) → Within s (call m s .used)
-reached-uses {m = m} {s = s} r = call-uses m (reached-holding r) s
+reached-uses {m = m} {s = s} r = call-uses m (reached-fit r) s
 
 -- the pairs of an answer fit the span buffer
 pub pairs-fit : (m : Buffers) (s : List ℕ) → pairCount (call m s .answer) ≤ 97

@@ -11,7 +11,8 @@ use Rattle.terms.specs.declared.Answer.the-variants as Answer
 use Rattle.terms.specs.declared.Settings.{Settings}
 use Rattle.terms.specs.declared.Tested.{Tested}
 use Rattle.terms.specs.declared.Tested.the-variants as Tested
-use Rattle.terms.specs.Refusals.{rank, tested, onTested}
+use Rattle.terms.specs.Refusals.{rank, tested}
+use Rattle.terms.specs.Otherwise.{onTested}
 use Rattle.terms.specs.Held.{Held}
 use Rattle.records.specs.declared.Command.{Command}
 use Rattle.records.specs.declared.Command.the-variants as Command
@@ -22,9 +23,12 @@ use Rattle.records.specs.declared.Framed.{Framed}
 use Rattle.records.specs.declared.Framed.the-variants as Framed
 use Rattle.records.specs.Parsed.{Parsed}
 use Rattle.records.specs.Parsed as Parsed
-use Rattle.records.specs.Records.{lengthField, kindField, bodyOf, isUnknown, allows, lengthsOf, usedFor, framed, decodeBody, parsedBody, parsedFrame, parse}
-use Rattle.decide.specs.Decide.{Yes, No, Spans, Reply, Contradiction, Answered, answer}
-use Rattle.service.specs.Call.{Buffers, Outcome, Refused, Ended, Changed, Asked, listTests, obey, judged, replied, effect}
+use Rattle.records.specs.Records.{framed, decodeBody, parsedBody, parsedFrame, parse}
+use Rattle.records.specs.Formats.{lengthField, kindField, bodyOf, isUnknown, allows, lengthsOf, usedFor}
+use Rattle.decide.specs.Answer.{answer}
+use Rattle.decide.specs.Decides.{Yes, No, Spans, Reply, Contradiction, Answered}
+use Rattle.service.specs.Call.{Outcome, Refused, Ended, Changed, Asked, listTests, obey, judged, replied, effect}
+use Rattle.service.specs.Buffers.{Buffers}
 
 -- so many bytes of those left
 pub record Within (s : List ℕ) (u : ℕ) : Type 0 where

@@ -1,4 +1,7 @@
+pub mod Pieces
 pub mod Cuts
+pub mod CutLaws
 pub mod Intervals
+pub mod IntervalLaws
 pub mod Code
 pub mod Counts

@@ -16,7 +16,8 @@ use Rattle.terms.specs.declared.Answer.{Answer}
 use Rattle.terms.specs.declared.Answer.the-variants.{Done, Yes, No, Contradiction, Spans, End, Refused}
 use Rattle.terms.specs.Limits.{NO-TOP, NO-BOTTOM}
 use Rattle.terms.specs.Tests.{true-of, false-of}
-use Rattle.terms.specs.Same.{sameDepth, same-depth, depth-same}
+use Rattle.terms.specs.Same.{sameDepth}
+use Rattle.terms.specs.SameLaws.{same-depth, depth-same}
 use Rattle.lines.specs.Lines.{codes, digitsUpTo, decimal, signed, endText, pairText, pairsText, words}
 
 -- ---- digits

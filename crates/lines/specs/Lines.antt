@@ -11,7 +11,7 @@ use lib.ListN.{length}
 use Rattle.codec.specs.Bytes.{put}
 use Rattle.terms.specs.declared.Answer.{Answer}
 use Rattle.terms.specs.declared.Answer.the-variants.{Done, Yes, No, Contradiction, Spans, End, Refused}
-use Rattle.terms.specs.Answers.{pairsOf}
+use Rattle.terms.specs.Pairs.{pairsOf}
 use Rattle.terms.specs.Limits.{NO-TOP, NO-BOTTOM}
 use Rattle.terms.specs.Same.{sameDepth}
 

@@ -3,7 +3,7 @@ ghost use mathlib.Core.Path.{_≡_};
 ghost use mathlib.Core.List.{_++_};
 ghost use Prim.Native.Nat.{_+_, _*_, _≤_};
 ghost use lib.ListN.{length, take};
-ghost use Rattle.terms.specs.Answers.{pairCount};
+ghost use Rattle.terms.specs.Pairs.{pairCount};
 ghost use Rattle.terms.specs.Limits.{SPAN-NUMBERS};
 ghost use Rattle.lines.specs.Lines.{decimal, signed, endText, pairText, pairsText, words, lineText, Laid};
 use terms::Answer;

@@ -1,12 +1,16 @@
 -- C gets the answer back: the halves of the number that a call returns are the answer's number and its value. Assumes nothing.
-use mathlib.Core.Path.{_≡_, ap, _∙_}
-use Prim.Native.Nat.{_+_, _/_, _%_, _^_, _<_}
+use mathlib.Core.Path.{ap, _∙_}
+use mathlib.Core.List.{List}
+use Prim.Native.Nat.{ℕ, _+_, _<_}
 use native.Mathlib.Nat.{add-zero, mul-add-div-right, div-eq-of-lt, mul-add-mod-self-right, mod-eq-of-lt}
 use native.Mathlib.Omega.{arith}
 use Rattle.terms.specs.declared.Answer.{Answer}
 use Rattle.terms.specs.declared.Answer.the-variants.{Done, Yes, No, Contradiction, Spans, End, Refused}
 use Rattle.terms.specs.Answers.{numberOf, valueOf}
-use Rattle.panel.specs.Exported.{packed}
+use Rattle.service.specs.Buffers.{Buffers}
+use Rattle.service.specs.Call.{call, spanCall}
+use Rattle.claims.specs.Values.{call-value, span-value}
+use Rattle.panel.specs.Exported.{Unpacked}
 
 -- 01, Records: six answers, and a refusal
 few : (a : Answer) → numberOf a < 7
@@ -18,15 +22,16 @@ few (Spans count) = omega arith
 few End = omega arith
 few (Refused number) = omega arith
 
--- 01, Records: the answer's number and value, read off the number that C gets, which 32 bits hold
-pub record Unpacked (a : Answer) : Type 0 where
-  pub number : packed a / 65536 ≡ numberOf a
-  pub value : packed a % 65536 ≡ valueOf a
-  pub fits : packed a < 2 ^ 32
-
 pub unpacked : (a : Answer) → valueOf a < 65536 → Unpacked a
 unpacked a h = record {
   number = mul-add-div-right {m = 65536} (omega arith) (numberOf a) (valueOf a) ∙ ap (λ n. numberOf a + n) (div-eq-of-lt h) ∙ add-zero (numberOf a);
   value = mul-add-mod-self-right (numberOf a) 65536 (valueOf a) ∙ mod-eq-of-lt h;
   fits = omega (arith, few a);
 }
+
+-- whatever is lent and whatever the input, C gets the call's answer back
+pub call-unpacked : (m : Buffers) (s : List ℕ) → Unpacked (call m s .answer)
+call-unpacked m s = unpacked (call m s .answer) (call-value m s)
+
+pub span-unpacked : (m : Buffers) (a A : ℕ) → Unpacked (spanCall m a A .answer)
+span-unpacked m a A = unpacked (spanCall m a A .answer) (span-value m a A)

@@ -13,27 +13,14 @@ use Rattle.terms.specs.declared.Settings.{Settings}
 use Rattle.terms.specs.declared.Tested.{Tested}
 use Rattle.terms.specs.declared.Tested.the-variants as Tested
 use Rattle.terms.specs.Tests.{true-of}
-use Rattle.terms.specs.Refusals.{rank, Test, test, tested, onTested}
+use Rattle.terms.specs.Refusals.{rank, test, tested}
+use Rattle.terms.specs.Otherwise.{onTested}
 use Rattle.records.specs.declared.Lengths.{Lengths}
 use Rattle.records.specs.declared.Lengths.the-variants as Lengths
 use Rattle.records.specs.declared.Framed.{Framed}
 use Rattle.records.specs.declared.Framed.the-variants as Framed
-use Rattle.records.specs.Records.{
-  lengthField,
-  kindField,
-  bodyOf,
-  allows,
-  isUnknown,
-  lengthsOf,
-  kindTests,
-  frameTests,
-  usedFor,
-  framed,
-  decodeBody,
-  parsedBody,
-  parsedFrame,
-  parse,
-}
+use Rattle.records.specs.Records.{kindTests, framed, decodeBody, parsedBody, parsedFrame, parse}
+use Rattle.records.specs.Formats.{lengthField, kindField, bodyOf, allows, isUnknown, lengthsOf, usedFor}
 
 -- the record of a kind where no test applies; else all of its bytes are used
 abbrev pub framedAs : Tested → ℕ → ℕ → Framed

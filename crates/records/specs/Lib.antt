@@ -1,3 +1,4 @@
+pub mod Formats
 pub mod Parsed
 pub mod Records
 pub mod Frame

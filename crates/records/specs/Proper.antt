@@ -41,6 +41,23 @@ use Rattle.records.specs.declared.Framed.the-variants as Framed
 use Rattle.records.specs.Parsed.{Parsed}
 use Rattle.records.specs.Parsed as Parsed
 use Rattle.records.specs.Records.{
+  namedTests,
+  operatorTests,
+  markTests,
+  questionTests,
+  Kind,
+  kinds,
+  atKind,
+  bodyTests,
+  commandIn,
+  decodedAs,
+  decodeBody,
+  framed,
+  parsedBody,
+  parsedFrame,
+  parse,
+}
+use Rattle.records.specs.Formats.{
   operatorAt,
   isInvalid,
   labelRule,
@@ -52,24 +69,9 @@ use Rattle.records.specs.Records.{
   labelQuestion,
   linkQuestion,
   spansQuestion,
-  namedTests,
-  operatorTests,
-  markTests,
-  questionTests,
   allows,
-  Kind,
-  kinds,
-  atKind,
   lengthsOf,
-  bodyTests,
-  commandIn,
-  decodedAs,
-  decodeBody,
   bodyOf,
-  framed,
-  parsedBody,
-  parsedFrame,
-  parse,
 }
 use Rattle.records.specs.Frame.{recordBytes, parse-record}
 
@@ -190,9 +192,6 @@ body-proper σ k b =
         ),
       ),
     ) k)
-
-pub decode-proper : (σ : Settings) (k : ℕ) (b : List ℕ) (c : Command) → decodeBody σ k b ≡ Decoded.Command c → T (Proper c)
-decode-proper σ k b c e = subst ProperDecoded e (body-proper σ k b)
 
 used-proper : (d : Decoded) (b : List ℕ) (u : ℕ) → ProperDecoded d → ProperParsed (parsedBody d b u)
 used-proper (Decoded.Command c) b u h = h

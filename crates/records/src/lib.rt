@@ -6,9 +6,11 @@ ghost use Prim.Native.Nat.{_+_};
 ghost use lib.Dec.{T};
 ghost use lib.ListN.{length};
 ghost use Rattle.terms.specs.Held.{isNamed};
-ghost use Rattle.terms.specs.Refusals.{test, tested as testedBy, orElse};
+ghost use Rattle.terms.specs.Refusals.{test, tested as testedBy};
+ghost use Rattle.terms.specs.Otherwise.{orElse};
 ghost use Rattle.records.specs.declared.Command.the-variants as To;
-ghost use Rattle.records.specs.Records.{
+ghost use Rattle.records.specs.Records.{markTests, asRule, asOperatorRule, asPut, asTake, asQuestion, kindTests, decodedAs, decodeBody, framed};
+ghost use Rattle.records.specs.Formats.{
   operatorAt,
   labelRule,
   bothRule,
@@ -19,18 +21,8 @@ ghost use Rattle.records.specs.Records.{
   labelQuestion,
   linkQuestion,
   spansQuestion,
-  markTests,
-  asRule,
-  asOperatorRule,
-  asPut,
-  asTake,
-  asQuestion,
   allows,
   lengthsOf,
-  kindTests,
-  decodedAs,
-  decodeBody,
-  framed,
 };
 ghost use Rattle.records.specs.Frame.{framedAs};
 use terms::Atom;

@@ -17,8 +17,9 @@ use Rattle.terms.specs.declared.Atom.the-variants.{Has, Linked}
 use Rattle.terms.specs.declared.Mark.{Mark}
 use Rattle.terms.specs.Operators.{codeOf, distanceOf}
 use Rattle.terms.specs.Tests.{both-and, of-true}
-use Rattle.terms.specs.Same.{sameRule, sameOperator, sameMark, sameAtom, sameDepth, kindOf, operatorIn, firstOf}
-use Rattle.terms.specs.Same.{secondOf, thirdOf, same-rule, same-mark, atom-same, same-depth, depth-same}
+use Rattle.terms.specs.Same.{sameRule, sameOperator, sameMark, sameAtom, sameDepth, kindOf, firstOf, secondOf, thirdOf}
+use Rattle.terms.specs.Held.{operatorIn}
+use Rattle.terms.specs.SameLaws.{same-rule, same-mark, atom-same, same-depth, depth-same}
 use Rattle.scans.specs.Keys.{packedFields, tagOf, ruleKey, markKey, depthKey, atomKey, Bytes, ByteRule, ByteAtom, MarkFits, DepthFits}
 use Rattle.keys.proofs.Scan.{test-eq}
 

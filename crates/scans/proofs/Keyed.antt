@@ -8,7 +8,7 @@ use lib.ListN.{length, getD, take, set, length-map}
 use lib.Seq.{length-take-le}
 use Rattle.terms.specs.declared.Mark.{Mark}
 use Rattle.terms.specs.declared.RulePlace.{RulePlace}
-use Rattle.terms.specs.Held.{rulesIn}
+use Rattle.terms.specs.Places.{rulesIn}
 use Rattle.terms.specs.Same.{sameDepth}
 use Rattle.terms.specs.Lists.{some, once, depthCount}
 use Rattle.scans.specs.Keys.{All, Key-of, Keys-of, depthKey, DepthFits}

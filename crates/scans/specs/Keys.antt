@@ -11,7 +11,8 @@ use Rattle.terms.specs.declared.Atom.{Atom}
 use Rattle.terms.specs.declared.Atom.the-variants.{Has, Linked}
 use Rattle.terms.specs.declared.Mark.{Mark}
 use Rattle.terms.specs.Operators.{codeOf, distanceOf}
-use Rattle.terms.specs.Same.{kindOf, operatorIn, firstOf, secondOf, thirdOf}
+use Rattle.terms.specs.Same.{kindOf, firstOf, secondOf, thirdOf}
+use Rattle.terms.specs.Held.{operatorIn}
 use Rattle.terms.specs.Lists.{some}
 
 -- five fields in one number: four bytes, and n above them

@@ -2,7 +2,8 @@
 ghost use mathlib.Core.Path.{_≡_};
 ghost use Prim.Native.Nat.{_≤_};
 ghost use lib.ListN.{take};
-ghost use Rattle.terms.specs.Held.{rulesIn, isRule, isMark};
+ghost use Rattle.terms.specs.Held.{isRule, isMark};
+ghost use Rattle.terms.specs.Places.{rulesIn};
 ghost use Rattle.terms.specs.Same.{sameRule, sameMark, sameDepth};
 ghost use Rattle.terms.specs.Lists.{some, every, once, depthCount};
 ghost use Rattle.keys.specs.Search.{indexOf};

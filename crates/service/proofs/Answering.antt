@@ -14,7 +14,8 @@ use Rattle.terms.specs.declared.Question.{Question}
 use Rattle.terms.specs.declared.Question.the-variants as Question
 use Rattle.terms.specs.Limits.{ITEMS, CUTS, INTERVALS, LABEL-ENTRIES, LINK-ENTRIES}
 use Rattle.terms.specs.Held.{Held, isQuestion}
-use Rattle.line.specs.Cuts.{upto, upto-length}
+use Rattle.line.specs.Cuts.{upto}
+use Rattle.line.specs.CutLaws.{upto-length}
 use Rattle.line.specs.Intervals.{cutsOf}
 use Rattle.line.specs.Code.{Now-cuts}
 use Rattle.state.specs.declared.State.{State}
@@ -27,7 +28,8 @@ use Rattle.spans.specs.Runs.{runs, hasLabel}
 use Rattle.spans.specs.Code.{Spans-written}
 use Rattle.spans.specs.Longest.{runs-fit}
 use Rattle.verdicts.specs.Reading.{Lookup, lowestOf, neverIn, clashOf, clashIn, holdsIn}
-use Rattle.decide.specs.Decide.{Verdict, Yes, No, Spans, Reply, Contradiction, Answered, clashOr, answer}
+use Rattle.decide.specs.Answer.{clashOr, answer}
+use Rattle.decide.specs.Decides.{Verdict, Yes, No, Spans, Reply, Contradiction, Answered}
 use Rattle.decide.specs.Verdicts.{answerOf, tableVerdict, answer-is, clash-nowhere, clash-item}
 use Rattle.service.specs.Code.{Held-state, spansAfter, Read-off, Answered-as}
 use Rattle.service.proofs.Given.{few}

@@ -8,7 +8,8 @@ use lib.ListN.{length, take}
 use Rattle.terms.specs.declared.Mark.{Mark}
 use Rattle.terms.specs.Limits.{CUTS, isDepth}
 use Rattle.terms.specs.Tests.{and-both}
-use Rattle.terms.specs.Held.{isRule, isMark, isMarkable, rulesIn, ruleAt}
+use Rattle.terms.specs.Held.{isRule, isMark, isMarkable}
+use Rattle.terms.specs.Places.{rulesIn, ruleAt}
 use Rattle.line.specs.Intervals.{cutsOf}
 use Rattle.line.specs.Code.{Cuts-in, Low-cuts, Now-cuts, held-cuts, low-cuts}
 use Rattle.state.specs.declared.State.{State}

@@ -14,14 +14,16 @@ use Rattle.terms.specs.declared.Question.{Question}
 use Rattle.terms.specs.declared.Tested.{Tested}
 use Rattle.terms.specs.declared.Tested.the-variants as Tested
 use Rattle.terms.specs.Tests.{and-both, of-true}
-use Rattle.terms.specs.Refusals.{Test, test, tested, onTested}
+use Rattle.terms.specs.Refusals.{Test, test, tested}
+use Rattle.terms.specs.Otherwise.{onTested}
 use Rattle.terms.specs.Held.{Held, isQuestion}
 use Rattle.terms.specs.Lists.{limits}
 use Rattle.state.specs.declared.State.{State}
 use Rattle.state.specs.declared.Listed.{Listed}
 use Rattle.state.specs.State.{heldOf, Listed-as}
 use Rattle.block.specs.declared.Loaded.{Loaded}
-use Rattle.block.specs.Block.{SIZE, encode, readHeld, sameBytes, good, Loaded-as}
+use Rattle.block.specs.Block.{readHeld, sameBytes, good, Loaded-as}
+use Rattle.block.specs.Layout.{SIZE, encode}
 use Rattle.records.specs.declared.Command.{Command}
 use Rattle.records.specs.declared.Command.the-variants as Command
 use Rattle.records.specs.declared.Decoded.{Decoded}
@@ -29,28 +31,19 @@ use Rattle.records.specs.declared.Decoded.the-variants as Decoded
 use Rattle.records.specs.declared.Framed.the-variants as Framed
 use Rattle.records.specs.Parsed.{Parsed}
 use Rattle.records.specs.Parsed as Parsed
-use Rattle.records.specs.Records.{
-  lengthField,
-  bodyOf,
-  lengthsOf,
-  allows,
-  asQuestion,
-  decodeBody,
-  framed,
-  parsedBody,
-  parsedFrame,
-  parse,
-}
+use Rattle.records.specs.Records.{asQuestion, decodeBody, framed, parsedBody, parsedFrame, parse}
+use Rattle.records.specs.Formats.{lengthField, bodyOf, lengthsOf, allows}
 use Rattle.records.specs.Frame.{Framed-in, framed-in}
-use Rattle.decide.specs.Decide.{answer}
+use Rattle.decide.specs.Answer.{answer}
 use Rattle.service.specs.declared.Reply as Code
 use Rattle.service.specs.declared.Lent.{Lent}
 use Rattle.service.specs.declared.Input.{Input}
 use Rattle.service.specs.declared.Input.the-variants as Input
 use Rattle.terms.specs.declared.Settings.{Settings}
-use Rattle.service.specs.Call.{Buffers, lent, After, after, isShort, Outcome, Refused, Changed, Asked, judged, effect, onLent, call}
-use Rattle.service.specs.Code.{Enough, enough, Held-state, Found-in, Lent-as, Answered-as, spansAfter}
-use Rattle.service.specs.Code.{afterOf, Kept-as, replied-is, inputOf, parsedOf, Parsed-as}
+use Rattle.service.specs.Call.{Outcome, Refused, Changed, Asked, judged, effect, onLent, call}
+use Rattle.service.specs.Buffers.{Buffers, lent, After, after, isShort}
+use Rattle.service.specs.Code.{enough, Held-state, Lent-as, Answered-as, Kept-as, replied-is, inputOf, parsedOf, Parsed-as}
+use Rattle.service.specs.Buffers.{afterOf}
 
 -- what is given back, part by part
 pub parts :

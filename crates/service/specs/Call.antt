@@ -1,55 +1,33 @@
 -- The record call, whole: from what is lent and the bytes left to the answer, the bytes used and what is lent afterwards;
 -- and the calls beside the records.
-use mathlib.Core.Bool.{Bool, not, _||_}
+use mathlib.Core.Bool.{not}
 use mathlib.Core.List.{List, [], _∷_, _++_}
 use Prim.Native.Nat.{ℕ}
-use lib.Dec.{ltb}
 use lib.IntN.{ℤ}
 use lib.ListN.{length, drop}
 use Rattle.terms.specs.declared.Answer.{Answer}
 use Rattle.terms.specs.declared.Answer.the-variants as Answer
 use Rattle.terms.specs.declared.Question.{Question}
 use Rattle.terms.specs.declared.Question.the-variants as Question
-use Rattle.terms.specs.Limits.{LABEL-ENTRIES, LINK-ENTRIES, SPAN-NUMBERS}
-use Rattle.terms.specs.Held.{Held}
-use Rattle.terms.specs.Refusals.{Test, test, tested, onTested}
-use Rattle.state.specs.Changes.{ruleTests, putTests, takeTests, addRule, putMark, takeMark, emptyHeld}
-use Rattle.block.specs.Block.{SIZE, encode, readHeld, good}
+use Rattle.terms.specs.Limits.{LABEL-ENTRIES, LINK-ENTRIES}
+use Rattle.terms.specs.Held.{Held, emptyHeld}
+use Rattle.terms.specs.Refusals.{Test, test, tested}
+use Rattle.terms.specs.Otherwise.{onTested}
+use Rattle.state.specs.Changes.{ruleTests, putTests, takeTests, addRule, putMark, takeMark}
+use Rattle.block.specs.Block.{readHeld, good}
+use Rattle.block.specs.Layout.{SIZE, encode}
 use Rattle.records.specs.declared.Command.{Command}
 use Rattle.records.specs.declared.Command.the-variants as Command
 use Rattle.records.specs.Parsed.{Parsed}
 use Rattle.records.specs.Parsed as Parsed
 use Rattle.records.specs.Records.{asQuestion, parsedBody, parse}
 use Rattle.tables.specs.Tables.{labelTable, linkTable}
-use Rattle.spans.specs.Runs.{flat}
-use Rattle.decide.specs.Decide.{Yes, No, Spans, Reply, Contradiction, Answered, answer}
-
--- ---- what is lent, and what a call gives back
-
-pub record Buffers : Type 0 where
-  pub block : List ℕ
-  pub labels : List ℕ
-  pub links : List ℕ
-  pub spans : List ℤ
-
-abbrev pub lent : List ℕ → List ℕ → List ℕ → List ℤ → Buffers
-lent b t k s = record { block = b; labels = t; links = k; spans = s }
-
-pub record After : Type 0 where
-  pub answer : Answer
-  pub used : ℕ
-  pub buffers : Buffers
-
-abbrev pub after : Answer → ℕ → Buffers → After
-after a u m = record { answer = a; used = u; buffers = m }
+use Rattle.terms.specs.Spans.{flat}
+use Rattle.decide.specs.Answer.{answer}
+use Rattle.decide.specs.Decides.{Yes, No, Spans, Reply, Contradiction, Answered}
+use Rattle.service.specs.Buffers.{Buffers, lent, After, after, short}
 
 -- ---- 01, Where a record is turned away: lent memory
-
-abbrev pub isShort : ℕ → ℕ → ℕ → ℕ → Bool
-isShort b t k s = ltb b SIZE || (ltb t LABEL-ENTRIES || (ltb k LINK-ENTRIES || ltb s SPAN-NUMBERS))
-
-abbrev pub short : Buffers → Bool
-short m = isShort (length (m .block)) (length (m .labels)) (length (m .links)) (length (m .spans))
 
 abbrev pub lentTests : Buffers → List Test
 lentTests m = test (short m) 1 ∷ test (not (good (m .block))) 2 ∷ []
@@ -116,11 +94,3 @@ call m s = let h = readHeld (m .block) in onLent m (judged h (parse (h .settings
 -- the span call beside the records: item and label as numbers, answered as SPANS is; no bytes are used
 unfoldable pub spanCall : Buffers → ℕ → ℕ → After
 spanCall m a A = let h = readHeld (m .block) in onLent m (judged h (parsedBody (asQuestion (h .settings) (Question.Spans a A)) [] 0))
-
--- 01, The book: the calls beside the records, each with what it is asked
-pub data Beside-call : Type 0 where
-  spans-of : ℕ → ℕ → Beside-call
-
--- and the block after one
-abbrev pub blockAfter : Beside-call → Buffers → List ℕ
-blockAfter (spans-of a A) m = spanCall m a A .buffers .block

@@ -15,15 +15,18 @@ use Rattle.terms.specs.Tests.{neither}
 use Rattle.terms.specs.Limits.{CUTS, LABEL-ENTRIES, LINK-ENTRIES, SPAN-NUMBERS}
 use Rattle.terms.specs.Held.{Held, isQuestion}
 use Rattle.terms.specs.Lists.{limits}
-use Rattle.terms.specs.Refusals.{test, tested, onTested}
+use Rattle.terms.specs.Refusals.{test, tested}
+use Rattle.terms.specs.Otherwise.{onTested}
 use Rattle.line.specs.Code.{Cuts-in, Low-cuts}
 use Rattle.state.specs.declared.State.{State}
 use Rattle.state.specs.declared.Listed.{Listed}
 use Rattle.state.specs.State.{heldOf, Counts-in}
-use Rattle.block.specs.Block.{SIZE, encode, readHeld, good}
+use Rattle.block.specs.Block.{readHeld, good}
+use Rattle.block.specs.Layout.{SIZE, encode}
 use Rattle.tables.specs.Seeded.{Shown}
-use Rattle.spans.specs.Runs.{flat}
-use Rattle.decide.specs.Decide.{Yes, No, Spans, Reply, Contradiction, Answered, answer}
+use Rattle.terms.specs.Spans.{flat}
+use Rattle.decide.specs.Answer.{answer}
+use Rattle.decide.specs.Decides.{Yes, No, Spans, Reply, Contradiction, Answered}
 use Rattle.decide.specs.Verdicts.{answerOf, tableVerdict}
 use Rattle.service.specs.declared.Reply as Code
 use Rattle.service.specs.declared.Lent.{Lent}
@@ -34,10 +37,12 @@ use Rattle.records.specs.declared.Decoded.{Decoded}
 use Rattle.records.specs.declared.Decoded.the-variants as Decoded
 use Rattle.records.specs.Parsed.{Parsed}
 use Rattle.records.specs.Parsed as Parsed
-use Rattle.records.specs.Records.{bodyOf, parse}
+use Rattle.records.specs.Records.{parse}
+use Rattle.records.specs.Formats.{bodyOf}
 use Rattle.records.specs.Frame.{Framed-in}
 use Rattle.terms.specs.declared.Settings.{Settings}
-use Rattle.service.specs.Call.{Buffers, lent, After, after, isShort, filled, replied}
+use Rattle.service.specs.Call.{filled, replied}
+use Rattle.service.specs.Buffers.{Buffers, after, isShort}
 
 -- enough is lent
 pub record Enough (b t k s : ℕ) : Type 0 where
@@ -109,10 +114,6 @@ pub record Answered-as
   pub said : r ≡ answerOf (answer h q)
   pub tables : Shown h labels links labels′ links′
   pub buffer : spans′ ≡ spansAfter (answer h q) spans
-
--- what the code gives back, with what is lent then
-abbrev pub afterOf : Code.Reply → List ℕ → List ℕ → List ℕ → List ℤ → After
-afterOf r b t k s = after (r .answer) (r .used) (lent b t k s)
 
 -- a list operation's outcome, and the block then
 pub record Kept-as (l : Listed) (used : ℕ) (old new : List ℕ) (r : Code.Reply) : Type 0 where

@@ -9,10 +9,10 @@ use lib.IntN.{ℤ}
 use lib.ListN.{length, take, drop, set, length-append, take-append-drop}
 use lib.Seq.{sets-eq, take-at, drop-append-add, drop-drop}
 use Rattle.terms.specs.Limits.{CUTS, SPAN-NUMBERS}
-use Rattle.terms.specs.Spans.{Run}
+use Rattle.terms.specs.Spans.{Run, flat}
 use Rattle.line.specs.Cuts.{top-of, bottom-of}
 use Rattle.spans.specs.declared.Progress.{Progress}
-use Rattle.spans.specs.Runs.{Begun, outside, since, runsFrom, runs, flat}
+use Rattle.spans.specs.Runs.{Begun, outside, since, runsFrom, runs}
 use Rattle.spans.specs.Code.{Spans-written, laid, begunAt, begunIn, Earlier, endedAt, begunAfter, Written-so-far, Stepped}
 use Rattle.spans.specs.Longest.{flat-length, runs-fit}
 

@@ -6,11 +6,11 @@ use Prim.Native.Nat.{ℕ, suc, pred, _+_, _-_, _*_, _≤_, _<_}
 use lib.IntN.{ℤ}
 use lib.ListN.{length, take, drop}
 use Rattle.terms.specs.Limits.{ITEMS, LABELS, LABEL-ENTRIES, SPAN-NUMBERS}
-use Rattle.terms.specs.Spans.{Run, run}
+use Rattle.terms.specs.Spans.{Run, run, flat}
 use Rattle.line.specs.Cuts.{top-of, bottom-of}
 use Rattle.line.specs.Code.{Cuts-in, Low-cuts}
 use Rattle.spans.specs.declared.Progress.{Progress}
-use Rattle.spans.specs.Runs.{Begun, outside, since, runsFrom, runs, flat}
+use Rattle.spans.specs.Runs.{Begun, outside, since, runsFrom, runs}
 
 -- what a call for a label's spans may be given
 pub record To-write (buffer : List ℤ) (table : List ℕ) (a A : ℕ) (line : List ℤ) (n : ℕ) : Type 0 where

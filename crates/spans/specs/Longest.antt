@@ -13,9 +13,10 @@ use lib.ListN.{length, List·getD-eq-default}
 use Rattle.terms.specs.Order.{ints, suc-is, pred-is, le-or-gt, ≤-refl}
 use Rattle.terms.specs.Limits.{CUTS, SPAN-NUMBERS, NO-TOP, NO-BOTTOM}
 use Rattle.terms.specs.Held.{_∈_}
-use Rattle.terms.specs.Spans.{Run, run, Covers, Covered, Ordered, Apart, Longest}
-use Rattle.line.specs.Cuts.{Asc, upto, upto-length, nth, nth-le, nth-gt, nth-in, nth-asc, top-of, bottom-of, top-own}
-use Rattle.spans.specs.Runs.{Begun, outside, since, runsFrom, runs, flat}
+use Rattle.terms.specs.Spans.{Run, run, Covers, Covered, Ordered, Apart, Longest, flat}
+use Rattle.line.specs.Cuts.{Asc, upto, nth, top-of, bottom-of}
+use Rattle.line.specs.CutLaws.{upto-length, nth-le, nth-gt, nth-in, nth-asc, top-own}
+use Rattle.spans.specs.Runs.{Begun, outside, since, runsFrom, runs}
 use Rattle.spans.specs.Code.{Earlier}
 
 -- ---- at most one list

@@ -29,11 +29,6 @@ runsFrom cs has (suc n) p (since s) = elim (has p) [
 unfoldable pub runs : List ℤ → (ℕ → Bool) → List Run
 runs cs has = runsFrom cs has (suc (length cs)) 0 outside
 
--- 01, Records: the pairs as they are written
-unfoldable pub flat : List Run → List ℤ
-flat [] = []
-flat (r ∷ rs) = r .top ∷ r .bottom ∷ flat rs
-
 -- the label's bit in an item's entries of the label table
 abbrev pub hasLabel : List ℕ → ℕ → ℕ → ℕ → Bool
 hasLabel labels item label p = eqb (bitAt (getD labels (item * INTERVALS + p) 0) label) 1

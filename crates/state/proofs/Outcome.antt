@@ -13,7 +13,8 @@ use Rattle.terms.specs.declared.Tested.{Tested}
 use Rattle.terms.specs.declared.Tested.the-variants as Tested
 use Rattle.terms.specs.Limits.{RULES, MARKS, DEPTHS}
 use Rattle.terms.specs.Held.{Held}
-use Rattle.terms.specs.Refusals.{Test, test, tested, onTested}
+use Rattle.terms.specs.Refusals.{Test, test, tested}
+use Rattle.terms.specs.Otherwise.{onTested}
 use Rattle.terms.specs.Same.{sameRule, sameMark, sameDepth}
 use Rattle.terms.specs.Lists.{some, depthCount}
 use Rattle.state.specs.declared.State.{State}

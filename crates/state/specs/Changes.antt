@@ -6,7 +6,7 @@ use lib.ListN.{length}
 use Rattle.terms.specs.declared.Rule.{Rule}
 use Rattle.terms.specs.declared.Mark.{Mark}
 use Rattle.terms.specs.Limits.{RULES, MARKS, DEPTHS}
-use Rattle.terms.specs.Held.{Held, freshSettings, withRules, withMarks}
+use Rattle.terms.specs.Held.{Held, withRules, withMarks}
 use Rattle.terms.specs.Refusals.{Test, test}
 use Rattle.terms.specs.Same.{sameRule, sameMark, sameDepth}
 use Rattle.terms.specs.Lists.{some, strike, depthCount}
@@ -37,7 +37,3 @@ putMark h m = withMarks h (h .marks ++ (m ∷ []))
 -- 01, The book: kinds 8 and 9 strike the mark with the same fields; those behind it move up
 abbrev pub takeMark : Held → Mark → Held
 takeMark h m = withMarks h (strike (sameMark m) (h .marks))
-
--- 01, The book: both lists empty at first, and nothing set
-abbrev pub emptyHeld : Held
-emptyHeld = record { rules = []; marks = []; settings = freshSettings }

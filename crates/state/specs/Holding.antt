@@ -3,10 +3,10 @@ use mathlib.Core.Path.{_≡_, refl, sym, subst}
 use native.Mathlib.Omega.{arith}
 use lib.ListN.{length-replicate}
 use Rattle.terms.specs.Limits.{RULES, MARKS}
-use Rattle.terms.specs.Held.{Held, emptyMark, emptyPlace, rulesIn}
+use Rattle.terms.specs.Held.{Held, emptyHeld}
+use Rattle.terms.specs.Places.{emptyMark, emptyPlace, rulesIn}
 use Rattle.state.specs.declared.State.{State}
 use Rattle.state.specs.State.{heldOf, emptyState, Counts-in}
-use Rattle.state.specs.Changes.{emptyHeld}
 
 -- the state holds h
 pub record Holds (h : Held) (s : State) : Type 0 where

@@ -4,11 +4,12 @@ use mathlib.Core.List.{List}
 use Prim.Native.Nat.{_≤_}
 use lib.ListN.{length, replicate}
 use Rattle.terms.specs.Limits.{RULES, MARKS}
-use Rattle.terms.specs.Held.{Held, emptyMark, emptyPlace, freshSettings}
-use Rattle.terms.specs.Lists.{heldIn}
+use Rattle.terms.specs.Held.{Held, freshSettings}
+use Rattle.terms.specs.Places.{emptyMark, emptyPlace, heldIn}
 use Rattle.state.specs.declared.State.{State}
 use Rattle.state.specs.declared.Listed.{Listed}
-use Rattle.terms.specs.Refusals.{Test, tested, onTested}
+use Rattle.terms.specs.Refusals.{Test, tested}
+use Rattle.terms.specs.Otherwise.{onTested}
 
 abbrev pub heldOf : State → Held
 heldOf s = heldIn (s .rules) (s .«rule_count») (s .marks) (s .«mark_count») (s .settings)

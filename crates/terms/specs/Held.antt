@@ -1,14 +1,13 @@
 -- What is held, and the ranges of what can be.
 use mathlib.Core.Path.{_≡_}
 use mathlib.Core.Bool.{Bool, true, _&&_}
-use mathlib.Core.List.{List, List·Memᴰ, map}
-use Prim.Native.Nat.{ℕ}
+use mathlib.Core.List.{List, [], List·Memᴰ}
 use lib.Dec.{T}
-use lib.IntN.{ℤ, pos}
-use lib.ListN.{take, getD}
+use lib.IntN.{ℤ}
+use Rattle.terms.specs.declared.Operator.{Operator}
+use Rattle.terms.specs.declared.Operator.the-variants.{Between}
 use Rattle.terms.specs.declared.Rule.{Rule}
 use Rattle.terms.specs.declared.Rule.the-variants.{Label, Both, Link, Via}
-use Rattle.terms.specs.declared.RulePlace.{RulePlace}
 use Rattle.terms.specs.declared.Atom.{Atom}
 use Rattle.terms.specs.declared.Atom.the-variants.{Has, Linked}
 use Rattle.terms.specs.declared.Mark.{Mark}
@@ -17,7 +16,6 @@ use Rattle.terms.specs.declared.Question.the-variants as Question
 use Rattle.terms.specs.declared.Settings.{Settings}
 use Rattle.terms.specs.Limits.{isItem, isKind, isLeft, isConcluded, isMarked, isLabel, isDepth}
 use Rattle.terms.specs.Operators.{isOperator}
-use Rattle.terms.specs.Same.{operatorIn}
 
 infix 50 _∈_
 abbrev pub _∈_ : {X : Type 0} → X → List X → Type 0
@@ -42,21 +40,9 @@ withRules h rs = record { rules = rs; marks = h .marks; settings = h .settings }
 abbrev pub withMarks : Held → List Mark → Held
 withMarks h ms = record { rules = h .rules; marks = ms; settings = h .settings }
 
--- 01, State and tables: what a free place of the mark list holds
-abbrev pub emptyMark : Mark
-emptyMark = record { atom = Has 0 0; depth = pos 0 }
-
--- and of the rule list
-abbrev pub emptyPlace : RulePlace
-emptyPlace = record { rule = Both 0 0 0 }
-
--- the rules in the first n places
-unfoldable pub rulesIn : List RulePlace → ℕ → List Rule
-rulesIn ps n = map (λ p. p .rule) (take n ps)
-
--- the rule in a place
-abbrev pub ruleAt : List RulePlace → ℕ → Rule
-ruleAt ps q = getD ps q emptyPlace .rule
+-- 01, The book: both lists empty at first, and nothing set
+abbrev pub emptyHeld : Held
+emptyHeld = record { rules = []; marks = []; settings = freshSettings }
 
 -- where a mark is true: at its depth
 abbrev pub At : Mark → ℤ → Type 0
@@ -71,6 +57,13 @@ isStatement (Linked a r b) = isItem a && (isKind r && isItem b)
 abbrev pub isQuestion : Question → Bool
 isQuestion (Question.Holds x i) = isStatement x
 isQuestion (Question.Spans a A) = isStatement (Has a A)
+
+-- a rule's operator; BETWEEN, which is always in range, where it has none
+abbrev pub operatorIn : Rule → Operator
+operatorIn (Label o A B) = o
+operatorIn (Both A B C) = Between
+operatorIn (Link o r s) = o
+operatorIn (Via r A B) = Between
 
 -- 01, Records: the labels and link kinds of a rule
 abbrev pub isNamed : Rule → Bool
@@ -90,8 +83,3 @@ isMarkable (Linked a r b) = isItem a && (isKind r && isItem b)
 
 abbrev pub isMark : Mark → Bool
 isMark m = isMarkable (m .atom) && isDepth (m .depth)
-
--- what is held is in range
-pub record InRange (h : Held) : Type 0 where
-  pub rules : (ρ : Rule) → ρ ∈ h .rules → T (isRule ρ)
-  pub marks : (m : Mark) → m ∈ h .marks → T (isMark m)

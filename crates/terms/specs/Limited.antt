@@ -8,11 +8,18 @@ use Prim.Native.Nat.{suc, _≤_}
 use native.Mathlib.Omega.{arith}
 use lib.Dec.{T, leb, leb→le, le→leb}
 use lib.ListN.{length}
+use Rattle.terms.specs.declared.Rule.{Rule}
+use Rattle.terms.specs.declared.Mark.{Mark}
 use Rattle.terms.specs.Tests.{and-both, both-and, or-one, or-left, or-right}
 use Rattle.terms.specs.Limits.{RULES, MARKS, DEPTHS}
-use Rattle.terms.specs.Held.{_∈_, Held, isRule, isMark, isSettings, InRange}
+use Rattle.terms.specs.Held.{_∈_, Held, isRule, isMark, isSettings}
 use Rattle.terms.specs.Same.{sameRule, sameMark}
 use Rattle.terms.specs.Lists.{some, every, strike, once, depthCount, limits}
+
+-- what is held is in range
+pub record InRange (h : Held) : Type 0 where
+  pub rules : (ρ : Rule) → ρ ∈ h .rules → T (isRule ρ)
+  pub marks : (m : Mark) → m ∈ h .marks → T (isMark m)
 
 -- ---- lists
 

@@ -1,10 +1,9 @@
--- The numbers of 01, each stated once for the definitions. `Limits::of_code` is proved to give the same ones for the code.
+-- The numbers of 01, each stated once. `Stated` ties the code's constants to them.
 use mathlib.Core.Bool.{Bool, _&&_}
 use Prim.Native.Nat.{ℕ, _+_, _*_}
 use lib.Dec.{ltb}
 use lib.IntN.{ℤ, pos, negsuc}
 use lib.Signed.{leZ}
-use Rattle.terms.specs.declared.Limits.{Limits}
 
 -- 01, Names and depths: items 0 to 15, labels 0 to 63, link kinds 0 to 7, EVERY and NEVER
 abbrev pub ITEMS : ℕ
@@ -67,28 +66,6 @@ NO-TOP = negsuc 2_147_483_647
 
 abbrev pub NO-BOTTOM : ℤ
 NO-BOTTOM = pos 2_147_483_647
-
-abbrev pub stated : Limits
-stated = record {
-  items = ITEMS;
-  labels = LABELS;
-  kinds = KINDS;
-  every = EVERY;
-  never = NEVER;
-  rules = RULES;
-  marks = MARKS;
-  depths = DEPTHS;
-  cuts = CUTS;
-  intervals = INTERVALS;
-  «label_entries» = LABEL-ENTRIES;
-  «link_entries» = LINK-ENTRIES;
-  «span_numbers» = SPAN-NUMBERS;
-  «within_most» = WITHIN-MOST;
-  shallowest = SHALLOWEST;
-  deepest = DEEPEST;
-  «no_top» = NO-TOP;
-  «no_bottom» = NO-BOTTOM;
-}
 
 -- 01, Records: what may stand in each field
 abbrev pub isItem : ℕ → Bool

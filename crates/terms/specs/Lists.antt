@@ -1,14 +1,12 @@
--- The held lists, and the limits that they keep. Assumes nothing.
+-- The held lists, and the limits that they keep.
 use mathlib.Core.Bool.{Bool, true, false, not, cond, _&&_, _||_}
 use mathlib.Core.List.{List, [], _∷_}
 use Prim.Native.Nat.{ℕ, _+_}
 use lib.Dec.{leb}
-use lib.ListN.{length, take}
-use Rattle.terms.specs.declared.RulePlace.{RulePlace}
+use lib.ListN.{length}
 use Rattle.terms.specs.declared.Mark.{Mark}
 use Rattle.terms.specs.Limits.{RULES, MARKS, DEPTHS}
-use Rattle.terms.specs.declared.Settings.{Settings}
-use Rattle.terms.specs.Held.{Held, rulesIn, isRule, isMark, isSettings}
+use Rattle.terms.specs.Held.{Held, isRule, isMark, isSettings}
 use Rattle.terms.specs.Same.{sameRule, sameMark, sameDepth}
 
 -- some element passes
@@ -41,7 +39,3 @@ unfoldable pub limits : Held → Bool
 limits h =
     leb (length (h .rules)) RULES && (leb (length (h .marks)) MARKS && (leb (depthCount (h .marks)) DEPTHS
     && (every isRule (h .rules) && (every isMark (h .marks) && (once sameRule (h .rules) && (once sameMark (h .marks) && isSettings (h .settings)))))))
-
--- what the first places of the two lists hold, under the settings
-abbrev pub heldIn : List RulePlace → ℕ → List Mark → ℕ → Settings → Held
-heldIn ps n ms m s = record { rules = rulesIn ps n; marks = take m ms; settings = s }

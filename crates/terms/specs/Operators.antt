@@ -6,8 +6,6 @@ use Rattle.terms.specs.declared.Operator.{Operator}
 use Rattle.terms.specs.declared.Operator.the-variants.{Within, Between, Above, Below, Anywhere}
 use Rattle.terms.specs.declared.OperatorRead.{OperatorRead}
 use Rattle.terms.specs.declared.OperatorRead.the-variants.{Valid, Invalid}
-use Rattle.terms.specs.declared.Tested.{Tested}
-use Rattle.terms.specs.declared.Tested.the-variants as Tested
 use Rattle.terms.specs.Limits.{WITHIN-MOST}
 
 -- the operator where its n passes
@@ -44,11 +42,6 @@ distanceOf Between = 0
 distanceOf Above = 0
 distanceOf Below = 0
 distanceOf Anywhere = 0
-
--- 01, Where a record is turned away: code or n out of range is 7
-abbrev pub readTested : OperatorRead → Tested
-readTested (Valid o) = Tested.Passed
-readTested Invalid = Tested.Refused 7
 
 -- an operator whose n is in range
 abbrev pub isOperator : Operator → Bool

@@ -30,12 +30,3 @@ test b n = record { applies = b; number = n }
 abbrev pub tested : List Test → Tested
 tested [] = Tested.Passed
 tested (t ∷ ts) = cond (t .applies) (Tested.Refused (t .number)) (tested ts)
-
--- one thing where no test applies, another by the number where one does
-abbrev pub onTested : {A : Type 0} → A → (ℕ → A) → Tested → A
-onTested a f Tested.Passed = a
-onTested a f (Tested.Refused n) = f n
-
--- this, and where it passes what comes after it
-abbrev pub orElse : Tested → Tested → Tested
-orElse t u = onTested u Tested.Refused t

@@ -1,4 +1,4 @@
--- Runs of consecutive depths. Assumes nothing.
+-- Runs of consecutive depths.
 use mathlib.Core.Path.{_≡_}
 use mathlib.Core.Logic.{_⊎_, _↔_}
 use mathlib.Core.List.{List, [], _∷_}
@@ -37,3 +37,8 @@ Apart (r ∷ rs) = Ordered r × ((s : Run) → s ∈ rs → sucℤ (r .bottom) <
 pub record Longest (S : ℤ → Type 0) (rs : List Run) : Type 0 where
   pub apart : Apart rs
   pub exact : (i : ℤ) → Covered rs i ↔ S i
+
+-- 01, Records: the pairs as they are written
+unfoldable pub flat : List Run → List ℤ
+flat [] = []
+flat (r ∷ rs) = r .top ∷ r .bottom ∷ flat rs

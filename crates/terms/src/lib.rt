@@ -2,12 +2,14 @@
 ghost use mathlib.Core.Path.{_≡_};
 ghost use mathlib.Core.Bool.{cond};
 ghost use lib.Dec.{eqb};
-ghost use Rattle.terms.specs.Limits.{stated, isItem, isKind, isLeft, isConcluded, isMarked, isLabel, isDepth};
-ghost use Rattle.terms.specs.Refusals.{orElse};
+ghost use Rattle.terms.specs.Limits.{isItem, isKind, isLeft, isConcluded, isMarked, isLabel, isDepth};
+ghost use Rattle.terms.specs.Stated.{stated};
+ghost use Rattle.terms.specs.Otherwise.{orElse};
 ghost use Rattle.terms.specs.declared.Tested.the-variants as Came;
-ghost use Rattle.terms.specs.Operators.{readIf, operatorOf, codeOf, distanceOf, isOperator, orIdentity, readTested};
+ghost use Rattle.terms.specs.Operators.{readIf, operatorOf, codeOf, distanceOf, isOperator, orIdentity};
+ghost use Rattle.terms.specs.Otherwise.{readTested};
 ghost use Rattle.terms.specs.Answers.{numberOf, valueOf};
-ghost use Rattle.terms.specs.Same.{operatorIn};
+ghost use Rattle.terms.specs.Held.{operatorIn};
 ghost use Rattle.terms.specs.Held.{isSettings, isNamed, isRule, isMarkable, isStatement, isMark, isQuestion};
 
 pub const ITEMS: u8 = 16;

@@ -4,7 +4,7 @@ use mathlib.Core.Bool.{true, false}
 use native.Mathlib.Omega.{arith}
 use lib.Seq.{length-take-le}
 use Rattle.terms.specs.Lists.{limits}
-use Rattle.block.specs.Block.{SIZE}
+use Rattle.block.specs.Layout.{SIZE}
 use Rattle.block.proofs.Loading.{not-back, too-many-rules, too-many-marks, not-good, held-in, loaded}
 use borrow.Author.Needs.{needs}
 use Rattle.block.proofs.load.Statement.{statement}

@@ -3,7 +3,7 @@ use mathlib.Core.Path.{_≡_, refl}
 use Prim.Native.Nat.{_-_, _≤_}
 use native.Mathlib.Omega.{arith}
 use lib.ListN.{length, take, length-set}
-use Rattle.block.specs.Layout.{tab}
+use Rattle.block.specs.Block.{tab}
 use Rattle.block.specs.Places.{markFrom}
 use Rattle.block.proofs.Tab.{tab-more}
 use Rattle.block.proofs.load_marks.Statement.{statement}

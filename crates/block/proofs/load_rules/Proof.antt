@@ -4,7 +4,7 @@ use Prim.Native.Nat.{_-_, _≤_}
 use native.Mathlib.Omega.{arith}
 use lib.ListN.{length, take, length-set}
 use Rattle.terms.specs.declared.Rule.{Rule}
-use Rattle.block.specs.Layout.{tab}
+use Rattle.block.specs.Block.{tab}
 use Rattle.block.specs.Places.{placeFrom}
 use Rattle.block.proofs.Tab.{tab-more}
 use Rattle.block.proofs.load_rules.Statement.{statement}

@@ -6,7 +6,7 @@ use lib.IntN.{ℤ}
 use lib.ListN.{getD}
 use mir.Syntax.{w32}
 use mir.ValLaws.{toZ-ofZ}
-use Rattle.block.specs.Layout.{markOf}
+use Rattle.block.specs.Block.{markOf}
 use Rattle.block.proofs.mark_at.Statement.{statement}
 use Rattle.block.proofs.mark_at.Tie as tie
 

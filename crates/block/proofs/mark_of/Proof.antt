@@ -7,7 +7,7 @@ use mir.Syntax.{w32}
 use mir.Val.{SFits}
 use mir.ValLaws.{toZ-ofZ}
 use Rattle.terms.specs.declared.Atom.the-variants.{Has, Linked}
-use Rattle.block.specs.Layout.{markOf}
+use Rattle.block.specs.Block.{markOf}
 use Rattle.block.proofs.mark_of.Statement.{statement}
 use Rattle.block.proofs.mark_of.Tie as tie
 

@@ -1,7 +1,7 @@
 -- No byte is laid.
 use mathlib.Core.Path.{sym}
 use Rattle.codec.proofs.Laws.{put-nil}
-use Rattle.block.specs.Block.{SETTINGS-AT}
+use Rattle.block.specs.Layout.{SETTINGS-AT}
 use Rattle.block.proofs.put_settings.Statement.{statement}
 use Rattle.block.proofs.put_settings.Tie as tie
 

@@ -3,7 +3,7 @@ use borrow.Author.Needs.{needs}
 use mathlib.Core.Path.{ap, _∙_}
 use Prim.Native.Nat.{ℕ, _+_}
 use lib.ListN.{getD}
-use Rattle.block.specs.Layout.{ruleOf}
+use Rattle.block.specs.Block.{ruleOf}
 use Rattle.block.proofs.rule_at.Statement.{statement}
 use Rattle.block.proofs.rule_at.Tie as tie
 

@@ -1,6 +1,6 @@
 -- Each arm is the case of `ruleOf` with its kind.
 use borrow.Author.Tests.{ne-eqb}
-use Rattle.block.specs.Layout.{ruleOf}
+use Rattle.block.specs.Block.{ruleOf}
 use borrow.Author.Needs.{needs}
 use Rattle.block.proofs.rule_of.Statement.{statement}
 use Rattle.block.proofs.rule_of.Tie as tie

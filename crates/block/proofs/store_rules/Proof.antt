@@ -7,9 +7,8 @@ use borrow.Author.Needs.{needs}
 use lib.ListN.{length, take, getD}
 use Rattle.codec.specs.Bytes.{put}
 use Rattle.codec.proofs.Laws.{put-nil}
-use Rattle.block.specs.Layout.{cat}
+use Rattle.block.specs.Layout.{cat, HEADER}
 use Rattle.block.specs.Places.{placeBytesOf}
-use Rattle.block.specs.Block.{HEADER}
 use Rattle.block.proofs.Tab.{lay-more}
 use Rattle.block.proofs.Sizes.{place-size}
 use Rattle.block.proofs.store_rules.Statement.{statement}

@@ -5,8 +5,8 @@ use Prim.Native.Nat.{suc, _-_}
 use native.Mathlib.Omega.{arith}
 use lib.ListN.{length}
 use Rattle.terms.specs.Limits.{LABEL-ENTRIES, LINK-ENTRIES, SPAN-NUMBERS}
-use Rattle.block.specs.Block.{SIZE}
-use Rattle.service.specs.Call.{lent}
+use Rattle.block.specs.Layout.{SIZE}
+use Rattle.service.specs.Buffers.{lent}
 use Rattle.harmikse.specs.Code.{Runs}
 use Rattle.harmikse.proofs.Stepped.{begins, falls}
 use borrow.Author.Needs.{needs}

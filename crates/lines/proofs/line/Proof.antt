@@ -1,6 +1,6 @@
 -- The parts of a line, one behind the other; together they have room.
 use native.Mathlib.Omega.{arith}
-use Rattle.terms.specs.Answers.{pairCount}
+use Rattle.terms.specs.Pairs.{pairCount}
 use Rattle.lines.specs.Lines.{lineText}
 use Rattle.lines.proofs.Laid.{laid-then}
 use Rattle.lines.proofs.Spelled.{decimal-short, words-short, pairs-short}

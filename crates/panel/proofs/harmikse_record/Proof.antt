@@ -1,5 +1,5 @@
 -- The service's call, its answer packed. Assumes nothing.
-use Rattle.panel.specs.Exported.{packs}
+use Rattle.panel.specs.ExportedLaws.{packs}
 use borrow.Author.Needs.{needs}
 use Rattle.panel.proofs.harmikse_record.Statement.{statement}
 use Rattle.panel.proofs.harmikse_record.Tie as tie

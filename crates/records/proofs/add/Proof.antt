@@ -2,7 +2,7 @@
 use mathlib.Core.Path.{ap}
 use Rattle.terms.specs.declared.Tested.{Tested}
 use Rattle.terms.specs.Held.{isNamed}
-use Rattle.terms.specs.Refusals.{orElse}
+use Rattle.terms.specs.Otherwise.{orElse}
 use Rattle.records.specs.declared.Command.the-variants as Command
 use Rattle.records.specs.Records.{decodedAs}
 use Rattle.records.proofs.Laws.{one-test}

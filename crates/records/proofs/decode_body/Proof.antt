@@ -3,7 +3,8 @@ use lib.ListN.{length}
 use mathlib.Core.Path.{ap}
 use native.Mathlib.Omega.{arith}
 use borrow.Author.Tests.{ne-eqb}
-use Rattle.records.specs.Records.{lengthsOf, bodyTests, commandIn}
+use Rattle.records.specs.Records.{bodyTests, commandIn}
+use Rattle.records.specs.Formats.{lengthsOf}
 use Rattle.records.proofs.Laws.{sized}
 use Rattle.records.proofs.decode_body.Statement.{statement}
 use Rattle.records.proofs.decode_body.Tie as tie

@@ -3,7 +3,8 @@ use mathlib.Core.Path.{ap}
 use Rattle.terms.specs.declared.Tested.{Tested}
 use Rattle.terms.specs.Held.{isNamed}
 use Rattle.records.specs.declared.Command.the-variants as Command
-use Rattle.records.specs.Records.{operatorAt, labelRule, decodedAs}
+use Rattle.records.specs.Records.{decodedAs}
+use Rattle.records.specs.Formats.{operatorAt, labelRule}
 use Rattle.records.proofs.Laws.{names-operator}
 use borrow.Author.Needs.{needs}
 use Rattle.records.proofs.label_rule.Statement.{statement}

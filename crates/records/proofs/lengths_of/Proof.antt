@@ -1,6 +1,6 @@
 -- Each arm is the row of the table with its kind. Assumes nothing.
 use borrow.Author.Tests.{ne-eqb}
-use Rattle.records.specs.Records.{lengthsOf}
+use Rattle.records.specs.Formats.{lengthsOf}
 use Rattle.records.proofs.lengths_of.Statement.{statement}
 use Rattle.records.proofs.lengths_of.Tie as tie
 

@@ -4,7 +4,7 @@ use Prim.Native.Nat.{_-_, _≤_, _<_}
 use native.Mathlib.Omega.{arith}
 use borrow.Author.Needs.{needs}
 use lib.ListN.{length, take, length-set}
-use Rattle.terms.specs.Held.{rulesIn}
+use Rattle.terms.specs.Places.{rulesIn}
 use Rattle.scans.specs.Keys.{ruleKey, ByteRule, Keys-of}
 use Rattle.keys.proofs.Scan.{length-of-map}
 use Rattle.scans.proofs.Keyed.{rules-more, keys-none, keys-more}

@@ -4,7 +4,8 @@ use Prim.Native.Nat.{_-_, _≤_, _<_}
 use native.Mathlib.Omega.{arith}
 use borrow.Author.Needs.{needs}
 use lib.ListN.{length}
-use Rattle.terms.specs.Held.{rulesIn, isRule}
+use Rattle.terms.specs.Held.{isRule}
+use Rattle.terms.specs.Places.{rulesIn}
 use Rattle.terms.specs.Lists.{every}
 use Rattle.keys.proofs.Scan.{length-of-map, every-more}
 use Rattle.scans.proofs.Keyed.{rules-more}

@@ -4,7 +4,8 @@ use mathlib.Core.List.{[]}
 use Rattle.state.specs.State.{heldOf}
 use Rattle.records.specs.declared.Decoded.{Decoded}
 use Rattle.records.specs.Records.{parsedBody}
-use Rattle.service.specs.Call.{lent, judged, effect}
+use Rattle.service.specs.Call.{judged, effect}
+use Rattle.service.specs.Buffers.{lent}
 use Rattle.service.proofs.Lending.{parts, questioned, asked-for}
 use borrow.Author.Needs.{needs}
 use Rattle.service.proofs.aside.Statement.{statement}

@@ -5,7 +5,8 @@ use Prim.Native.Nat.{ℕ, _+_}
 use native.Mathlib.Omega.{arith}
 use lib.Dec.{T}
 use lib.ListN.{length, drop}
-use Rattle.records.specs.Records.{allows, lengthsOf, decodeBody}
+use Rattle.records.specs.Records.{decodeBody}
+use Rattle.records.specs.Formats.{allows, lengthsOf}
 use Rattle.records.specs.Frame.{framed-in}
 use Rattle.service.proofs.Lending.{body-at, body-allowed, body-room, read-nothing, read-refused, read-record}
 use borrow.Author.Needs.{needs}

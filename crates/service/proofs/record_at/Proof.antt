@@ -7,10 +7,12 @@ use lib.ListN.{drop}
 use Rattle.state.specs.State.{heldOf}
 use Rattle.block.specs.Block.{readHeld}
 use Rattle.records.specs.Parsed as Parsed
-use Rattle.records.specs.Records.{bodyOf, parse}
+use Rattle.records.specs.Records.{parse}
+use Rattle.records.specs.Formats.{bodyOf}
 use Rattle.records.specs.Proper.{parse-proper}
 use Rattle.service.specs.declared.Input.{Input}
-use Rattle.service.specs.Call.{lent, judged, effect, call}
+use Rattle.service.specs.Call.{judged, effect, call}
+use Rattle.service.specs.Buffers.{lent}
 use Rattle.service.specs.Code.{parsedOf}
 use Rattle.service.proofs.Lending.{parts, lent-refused, body-at, body-room, call-read}
 use borrow.Author.Needs.{needs}

@@ -6,7 +6,7 @@ use lib.ListN.{drop}
 use Rattle.terms.specs.Held.{Held}
 use Rattle.state.specs.State.{heldOf}
 use Rattle.state.specs.Holding.{fresh-holds}
-use Rattle.block.specs.Block.{SIZE, encode}
+use Rattle.block.specs.Layout.{SIZE, encode}
 use Rattle.records.specs.declared.Command.{Command}
 use Rattle.records.specs.Proper.{Proper}
 use Rattle.service.proofs.Lending.{parts, changed, questioned, as-command}

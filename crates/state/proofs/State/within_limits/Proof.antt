@@ -6,7 +6,8 @@ use mathlib.Core.Bool.{Bool, true, false, _&&_}
 use lib.Dec.{leb}
 use lib.ListN.{take}
 use lib.Seq.{length-take-le}
-use Rattle.terms.specs.Held.{rulesIn, isRule, isMark, isSettings}
+use Rattle.terms.specs.Held.{isRule, isMark, isSettings}
+use Rattle.terms.specs.Places.{rulesIn}
 use Rattle.terms.specs.Same.{sameRule, sameMark}
 use Rattle.terms.specs.Lists.{every, once, depthCount, limits}
 use Rattle.scans.proofs.Keyed.{rules-length}

@@ -1,0 +1,75 @@
+-- Demand 2: what a call that asks must answer and leave, by the least model and by the interpretations.
+use mathlib.Core.Path.{_≡_}
+use mathlib.Core.Logic.{_↔_}
+use mathlib.Core.List.{List}
+use Prim.Native.Nat.{ℕ, _*_}
+use lib.Dec.{T}
+use lib.IntN.{ℤ}
+use lib.ListN.{length, take}
+use Rattle.terms.specs.declared.Answer.the-variants as Answer
+use Rattle.terms.specs.declared.Atom.{Atom}
+use Rattle.terms.specs.declared.Atom.the-variants.{Has}
+use Rattle.terms.specs.declared.Question.{Question}
+use Rattle.terms.specs.declared.Question.the-variants as Question
+use Rattle.terms.specs.Held.{Held}
+use Rattle.terms.specs.Lists.{limits}
+use Rattle.terms.specs.Depths.{Derived}
+use Rattle.terms.specs.Spans.{Run, Longest, flat}
+use Rattle.line.specs.Pieces.{Pieces}
+use Rattle.tables.specs.Shows.{Shows}
+use Rattle.block.specs.Layout.{SIZE, encode}
+use Rattle.decide.specs.Decides.{Never, Lowest, Some, InAll, InOneNot}
+use Rattle.service.specs.Buffers.{Buffers, After}
+use Rattle.claims.specs.Table.{Asks}
+use Rattle.claims.specs.Reference.{Fed, Accepted}
+
+-- ---- which call it is
+
+-- what the book would be fed of a call
+abbrev pub feeding : Buffers → List ℕ → Fed
+feeding m s = record { bytes = s; block = length (m .block); labels = length (m .labels); links = length (m .links); spans = length (m .spans) }
+
+-- a good block: h is within the limits, and the block begins with its encoding
+pub record Holding (b : List ℕ) (h : Held) : Type 0 where
+  pub within : T (limits h)
+  pub encoded : take SIZE b ≡ encode h
+
+-- a record call on such a block, with enough lent, whose record is read as a question
+pub record Asking (m : Buffers) (s : List ℕ) (h : Held) (q : Question) : Type 0 where
+  pub block : Holding (m .block) h
+  pub accepted : Accepted h (feeding m s) (Asks q)
+
+-- ---- what it must answer
+
+-- the pairs in the span buffer are the longest runs of a set of depths
+pub record Runs-written (S : ℤ → Type 0) (n : ℕ) (spans : List ℤ) : Type 0 where
+  pub runs : List Run
+  pub longest : Longest S runs
+  pub number : length runs ≡ n
+  pub written : take (2 * n) spans ≡ flat runs
+
+-- where it is clear that there is no contradiction: yes exactly if it is so, no exactly if it is not; spans cover exactly the depths where it is so
+abbrev pub Told-by : Type 0 → (Atom → ℤ → Type 0) → (Atom → ℤ → Type 0) → Question → After → Type 0
+Told-by Clear So Not (Question.Holds x i) r = ((r .answer ≡ Answer.Yes) ↔ (Clear × So x i)) × ((r .answer ≡ Answer.No) ↔ (Clear × Not x i))
+Told-by Clear So Not (Question.Spans a A) r =
+    (((n : ℕ) × (r .answer ≡ Answer.Spans n)) ↔ Clear)
+    × ((n : ℕ) → r .answer ≡ Answer.Spans n → Runs-written (So (Has a A)) n (r .buffers .spans))
+
+-- contradiction with some item
+abbrev pub Contradicts : After → Type 0
+Contradicts r = (a : ℕ) × (r .answer ≡ Answer.Contradiction a)
+
+pub record Exact (h : Held) (q : Question) (r : After) : Type 0 where
+  -- contradiction with a exactly if a is the lowest item with NEVER; exactly if some item has it; exactly if no interpretation satisfies marks and rules
+  pub lowest : (a : ℕ) → (r .answer ≡ Answer.Contradiction a) ↔ Lowest h a
+  pub some-never : Contradicts r ↔ Never h
+  pub none-satisfies : Contradicts r ↔ (Some h → ⊥)
+  -- demand 2: no item has NEVER, and the statement is in the least model or is not
+  pub by-model : Told-by (Never h → ⊥) (Derived h) (λ x i. Derived h x i → ⊥) q r
+  -- demand 3's words: an interpretation satisfies marks and rules, and all that do make the statement true or one of them makes it false
+  pub by-interpretations : Told-by (Some h) (InAll h) (InOneNot h) q r
+  -- each bit of both tables, by 01's numbering of the pieces
+  pub number : ℤ → ℕ
+  pub count : ℕ
+  pub pieces : Pieces (h .marks) number count
+  pub tables : Shows h number count (r .buffers .labels) (r .buffers .links)

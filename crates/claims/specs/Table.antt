@@ -1,0 +1,156 @@
+-- What a record of each kind says, and 01's table of refusals, row by row.
+use mathlib.Core.Bool.{Bool, false, not, cond, _&&_, _||_}
+use mathlib.Core.List.{List, [], _∷_}
+use Prim.Native.Nat.{ℕ, _-_, _≤_}
+use lib.Dec.{eqb, ltb, leb}
+use lib.ListN.{length}
+use Rattle.terms.specs.declared.Rule.{Rule}
+use Rattle.terms.specs.declared.Mark.{Mark}
+use Rattle.terms.specs.declared.Question.{Question}
+use Rattle.terms.specs.Limits.{RULES, MARKS, DEPTHS, isDepth}
+use Rattle.terms.specs.Refusals.{rank, Test, test}
+use Rattle.terms.specs.Same.{sameDepth, sameMark, sameRule}
+use Rattle.terms.specs.Held.{Held, isNamed, isMarkable, isQuestion}
+use Rattle.terms.specs.Lists.{some, depthCount}
+use Rattle.block.specs.Block.{readHeld, good}
+use Rattle.service.specs.Buffers.{Buffers, short}
+use Rattle.records.specs.Formats.{
+  lengthField,
+  kindField,
+  bodyOf,
+  operatorAt,
+  isInvalid,
+  labelRule,
+  bothRule,
+  linkRule,
+  viaRule,
+  labelMark,
+  linkMark,
+  labelQuestion,
+  linkQuestion,
+  spansQuestion,
+  allows,
+  isUnknown,
+  lengthsOf,
+}
+
+-- 01, Records: RESET empties, a rule is added, a mark is put or taken, a question asks; a kind that there is not says nothing
+pub data Said : Type 0 where
+  Nothing : Said
+  Empties : Said
+  Adds : Rule → Said
+  Puts : Mark → Said
+  Takes : Mark → Said
+  Asks : Question → Said
+
+-- 01, Records: the table of kinds
+unfoldable pub saidBy : ℕ → List ℕ → Said
+saidBy k b =
+    cond (eqb k 1) Empties
+    (cond (eqb k 2) (Adds (labelRule b))
+    (cond (eqb k 3) (Adds (bothRule b))
+    (cond (eqb k 4) (Adds (linkRule b))
+    (cond (eqb k 5) (Adds (viaRule b))
+    (cond (eqb k 6) (Puts (labelMark b))
+    (cond (eqb k 7) (Puts (linkMark b))
+    (cond (eqb k 8) (Takes (labelMark b))
+    (cond (eqb k 9) (Takes (linkMark b))
+    (cond (eqb k 10) (Asks (labelQuestion b))
+    (cond (eqb k 11) (Asks (linkQuestion b))
+    (cond (eqb k 12) (Asks (spansQuestion b))
+    Nothing)))))))))))
+
+-- what the first record of these bytes says
+abbrev pub said : List ℕ → Said
+said s = saidBy (kindField s) (bodyOf s)
+
+-- one thing for a rule, a mark to put, a mark to take and a question each; another for what says none of these
+abbrev pub onSaid : {A : Type 0} → A → (Rule → A) → (Mark → A) → (Mark → A) → (Question → A) → Said → A
+onSaid d r p t q Nothing = d
+onSaid d r p t q Empties = d
+onSaid d r p t q (Adds ρ) = r ρ
+onSaid d r p t q (Puts m) = p m
+onSaid d r p t q (Takes m) = t m
+onSaid d r p t q (Asks x) = q x
+
+-- ---- 01, Where a record is turned away: each row's case
+
+-- 3: 1 to 3 bytes left, or length under 2 or more than the bytes after the length field
+abbrev pub brokenFrame : List ℕ → Bool
+brokenFrame s = ltb (length s) 4 || (ltb (lengthField s) 2 || ltb (length s - 2) (lengthField s))
+
+-- 4: unknown kind
+abbrev pub unknownKind : List ℕ → Bool
+unknownKind s = isUnknown (lengthsOf (kindField s))
+
+-- 5: length not that of the kind
+abbrev pub wrongLength : List ℕ → Bool
+wrongLength s = not (allows (lengthsOf (kindField s)) (lengthField s))
+
+-- 6: an item, label or link kind out of range
+abbrev pub badName : Said → Bool
+badName = onSaid false (λ ρ. not (isNamed ρ)) (λ m. not (isMarkable (m .atom))) (λ m. not (isMarkable (m .atom))) (λ q. not (isQuestion q))
+
+-- 7: code or n out of range, where the record has them
+abbrev pub badOperator : ℕ → List ℕ → Bool
+badOperator k b = (eqb k 2 || eqb k 4) && isInvalid (operatorAt b)
+
+-- 8: a mark's depth out of range
+abbrev pub badDepth : Said → Bool
+badDepth = onSaid false (λ ρ. false) (λ m. not (isDepth (m .depth))) (λ m. not (isDepth (m .depth))) (λ q. false)
+
+-- 9: a rule, or a mark to put, that is already held
+abbrev pub alreadyHeld : Held → Said → Bool
+alreadyHeld h = onSaid false (λ ρ. some (sameRule ρ) (h .rules)) (λ m. some (sameMark m) (h .marks)) (λ m. false) (λ q. false)
+
+-- 10: TAKE of a mark not held
+abbrev pub notHeld : Held → Said → Bool
+notHeld h = onSaid false (λ ρ. false) (λ m. false) (λ m. not (some (sameMark m) (h .marks))) (λ q. false)
+
+-- 11: a rule while 128 are held, or a mark to put while 256 are
+abbrev pub listFull : Held → Said → Bool
+listFull h = onSaid false (λ ρ. leb RULES (length (h .rules))) (λ m. leb MARKS (length (h .marks))) (λ m. false) (λ q. false)
+
+-- 12: a mark to put at a new depth while 96 are held
+abbrev pub depthsFull : Held → Said → Bool
+depthsFull h =
+    onSaid false (λ ρ. false)
+    (λ m. not (some (λ n. sameDepth (m .depth) (n .depth)) (h .marks)) && leb DEPTHS (depthCount (h .marks)))
+    (λ m. false) (λ q. false)
+
+-- ---- the table
+
+-- body and lists
+abbrev pub recordRows : Held → ℕ → List ℕ → List Test
+recordRows h k b =
+    let x = saidBy k b in
+    test (badName x) 6
+    ∷ test (badOperator k b) 7
+    ∷ test (badDepth x) 8
+    ∷ test (alreadyHeld h x) 9
+    ∷ test (notHeld h x) 10
+    ∷ test (listFull h x) 11
+    ∷ test (depthsFull h x) 12
+    ∷ []
+
+-- frame, body and lists; end is checked before them
+abbrev pub inputRows : Held → List ℕ → List Test
+inputRows h s =
+    cond (eqb (length s) 0) []
+    (test (brokenFrame s) 3
+    ∷ test (unknownKind s) 4
+    ∷ test (wrongLength s) 5
+    ∷ recordRows h (kindField s) (bodyOf s))
+
+-- 01, Where a record is turned away: the rows, where lent memory is short, its block bad, h is held and s is left
+abbrev pub table : Bool → Bool → Held → List ℕ → List Test
+table isShort isBad h s = test isShort 1 ∷ test isBad 2 ∷ inputRows h s
+
+-- the table of a call
+abbrev pub rows : Buffers → List ℕ → List Test
+rows m s = table (short m) (not (good (m .block))) (readHeld (m .block)) s
+
+-- 01, Where a record is turned away: rows by rank, from one to another, each at most those behind it
+abbrev pub Ascends : ℕ → ℕ → List Test → Type 0
+Ascends low high [] = Unit {0}
+Ascends low high (t ∷ ts) = (low ≤ rank (t .number)) × (rank (t .number) ≤ high) × Ascends (rank (t .number)) high ts

@@ -1,0 +1,65 @@
+-- What marks and rules decide: by the interpretations that satisfy them, and by the least model.
+use mathlib.Core.Path.{_≡_}
+use mathlib.Core.Bool.{true, false}
+use mathlib.Core.List.{List}
+use Prim.Native.Nat.{ℕ, _<_}
+use lib.IntN.{ℤ}
+use Rattle.terms.specs.declared.Atom.{Atom}
+use Rattle.terms.specs.declared.Atom.the-variants.{Has}
+use Rattle.terms.specs.declared.Question.{Question}
+use Rattle.terms.specs.declared.Question.the-variants as Question
+use Rattle.terms.specs.Limits.{ITEMS, NEVER}
+use Rattle.terms.specs.Held.{Held}
+use Rattle.terms.specs.Depths.{Derived}
+use Rattle.terms.specs.Interpretations.{Interpretation, Satisfies}
+use Rattle.terms.specs.Spans.{Run, Longest}
+
+-- 01, Records: yes, no, or spans
+pub data Verdict : Type 0 where
+  Yes No : Verdict
+  Spans : List Run → Verdict
+
+-- and contradiction with an item in their place
+pub data Reply : Type 0 where
+  Contradiction : ℕ → Reply
+  Answered : Verdict → Reply
+
+-- 01, Rules of derivation: an item that there is has NEVER at some depth
+pub record Never (h : Held) : Type 0 where
+  pub item : ℕ
+  pub depth : ℤ
+  pub named : item < ITEMS
+  pub has : Derived h (Has item NEVER) depth
+
+-- 01, Records: the lowest item that has NEVER
+pub record Lowest (h : Held) (a : ℕ) : Type 0 where
+  pub item : a < ITEMS
+  pub depth : ℤ
+  pub never : Derived h (Has a NEVER) depth
+  pub lower : (b : ℕ) (i : ℤ) → b < a → Derived h (Has b NEVER) i → ⊥
+
+-- some interpretation satisfies the marks and rules
+abbrev pub Some : Held → Type 0
+Some h = (D : Interpretation) × Satisfies h D
+
+-- a statement is true in all that do
+abbrev pub InAll : Held → Atom → ℤ → Type 0
+InAll h x i = (D : Interpretation) → Satisfies h D → D x i ≡ true
+
+-- false in one of them
+abbrev pub InOneNot : Held → Atom → ℤ → Type 0
+InOneNot h x i = (D : Interpretation) × Satisfies h D × (D x i ≡ false)
+
+-- demand 3: what a question comes to where some interpretation satisfies them
+abbrev pub Says : Held → Question → Verdict → Type 0
+Says h (Question.Holds x i) Yes = InAll h x i
+Says h (Question.Holds x i) No = InOneNot h x i
+Says h (Question.Holds x i) (Spans rs) = ⊥
+Says h (Question.Spans a A) Yes = ⊥
+Says h (Question.Spans a A) No = ⊥
+Says h (Question.Spans a A) (Spans rs) = Longest (InAll h (Has a A)) rs
+
+-- demand 3: contradiction where none does
+abbrev pub Decides : Held → Question → Reply → Type 0
+Decides h q (Contradiction a) = (Some h → ⊥) × Lowest h a
+Decides h q (Answered v) = Some h × Says h q v

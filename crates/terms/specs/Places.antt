@@ -1,0 +1,32 @@
+-- The places of the two lists in the state: what a free one holds, and what the first ones say.
+use mathlib.Core.List.{List, map}
+use Prim.Native.Nat.{ℕ}
+use lib.IntN.{pos}
+use lib.ListN.{take, getD}
+use Rattle.terms.specs.declared.Rule.{Rule}
+use Rattle.terms.specs.declared.Rule.the-variants.{Both}
+use Rattle.terms.specs.declared.RulePlace.{RulePlace}
+use Rattle.terms.specs.declared.Atom.the-variants.{Has}
+use Rattle.terms.specs.declared.Mark.{Mark}
+use Rattle.terms.specs.declared.Settings.{Settings}
+use Rattle.terms.specs.Held.{Held}
+
+-- 01, State and tables: what a free place of the mark list holds
+abbrev pub emptyMark : Mark
+emptyMark = record { atom = Has 0 0; depth = pos 0 }
+
+-- and of the rule list
+abbrev pub emptyPlace : RulePlace
+emptyPlace = record { rule = Both 0 0 0 }
+
+-- the rules in the first n places
+unfoldable pub rulesIn : List RulePlace → ℕ → List Rule
+rulesIn ps n = map (λ p. p .rule) (take n ps)
+
+-- the rule in a place
+abbrev pub ruleAt : List RulePlace → ℕ → Rule
+ruleAt ps q = getD ps q emptyPlace .rule
+
+-- what the first places of the two lists hold, under the settings
+abbrev pub heldIn : List RulePlace → ℕ → List Mark → ℕ → Settings → Held
+heldIn ps n ms m s = record { rules = rulesIn ps n; marks = take m ms; settings = s }
