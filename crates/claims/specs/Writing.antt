@@ -18,9 +18,8 @@ use Rattle.terms.specs.declared.Atom.{Atom}
 use Rattle.terms.specs.declared.Atom.the-variants.{Has, Linked}
 use Rattle.terms.specs.Limits.{ITEMS, KINDS, LABELS, EVERY, NEVER, isItem, isKind, isLeft, isConcluded, isMarked, isDepth}
 use Rattle.terms.specs.Operators.{codeOf, distanceOf, isOperator}
-use Rattle.terms.specs.Held.{operatorIn}
+use Rattle.terms.specs.Held.{operatorIn, isNamed, isMarkable}
 use Rattle.terms.specs.Tests.{and-both}
-use Rattle.terms.specs.Held.{isNamed, isMarkable}
 use Rattle.records.specs.declared.Command.{Command}
 use Rattle.records.specs.declared.Command.the-variants as Command
 use Rattle.records.specs.Proper.{isChange, operatorBytes, ruleBody, markBody, changeKind, changeBody, write, parse-write}

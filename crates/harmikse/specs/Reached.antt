@@ -17,12 +17,10 @@ use Rattle.terms.specs.Tests.{true-of}
 use Rattle.terms.specs.Pairs.{pairCount}
 use Rattle.terms.specs.Limits.{LABEL-ENTRIES, LINK-ENTRIES, SPAN-NUMBERS}
 use Rattle.terms.specs.Refusals.{rank, Test, test}
-use Rattle.terms.specs.Held.{_∈_, Held}
+use Rattle.terms.specs.Held.{_∈_, Held, emptyHeld}
 use Rattle.terms.specs.Limited.{Limited, of-limited}
-use Rattle.terms.specs.Held.{emptyHeld}
-use Rattle.block.specs.Layout.{zeros}
+use Rattle.block.specs.Layout.{zeros, SIZE, encode}
 use Rattle.block.specs.Block.{readHeld, good}
-use Rattle.block.specs.Layout.{SIZE, encode}
 use Rattle.records.specs.Records.{parse}
 use Rattle.service.specs.Call.{judged, effect, call}
 use Rattle.service.specs.Buffers.{Buffers, lent, short}

@@ -41,9 +41,8 @@ use Rattle.service.specs.declared.Input.{Input}
 use Rattle.service.specs.declared.Input.the-variants as Input
 use Rattle.terms.specs.declared.Settings.{Settings}
 use Rattle.service.specs.Call.{Outcome, Refused, Changed, Asked, judged, effect, onLent, call}
-use Rattle.service.specs.Buffers.{Buffers, lent, After, after, isShort}
+use Rattle.service.specs.Buffers.{Buffers, lent, After, after, isShort, afterOf}
 use Rattle.service.specs.Code.{enough, Held-state, Lent-as, Answered-as, Kept-as, replied-is, inputOf, parsedOf, Parsed-as}
-use Rattle.service.specs.Buffers.{afterOf}
 
 -- what is given back, part by part
 pub parts :

@@ -4,13 +4,11 @@ ghost use mathlib.Core.Bool.{cond};
 ghost use lib.Dec.{eqb};
 ghost use Rattle.terms.specs.Limits.{isItem, isKind, isLeft, isConcluded, isMarked, isLabel, isDepth};
 ghost use Rattle.terms.specs.Stated.{stated};
-ghost use Rattle.terms.specs.Otherwise.{orElse};
+ghost use Rattle.terms.specs.Otherwise.{orElse, readTested};
 ghost use Rattle.terms.specs.declared.Tested.the-variants as Came;
 ghost use Rattle.terms.specs.Operators.{readIf, operatorOf, codeOf, distanceOf, isOperator, orIdentity};
-ghost use Rattle.terms.specs.Otherwise.{readTested};
 ghost use Rattle.terms.specs.Answers.{numberOf, valueOf};
-ghost use Rattle.terms.specs.Held.{operatorIn};
-ghost use Rattle.terms.specs.Held.{isSettings, isNamed, isRule, isMarkable, isStatement, isMark, isQuestion};
+ghost use Rattle.terms.specs.Held.{operatorIn, isSettings, isNamed, isRule, isMarkable, isStatement, isMark, isQuestion};
 
 pub const ITEMS: u8 = 16;
 
