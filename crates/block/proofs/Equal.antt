@@ -1,11 +1,13 @@
 -- The test `sameBytes` is equality of lists, by induction over both. Assumes nothing.
-use mathlib.Core.Path.{_≡_, refl, sym, ap, _∙_}
-use mathlib.Core.Bool.{Bool, true, false}
+use mathlib.Core.Path.{_≡_, refl, ap, _∙_}
+use mathlib.Core.Bool.{Bool, true, false, _&&_}
 use mathlib.Core.List.{List, [], _∷_}
-use Prim.Native.Nat.{ℕ}
+use Prim.Native.Nat.{ℕ, zero, suc, _<_}
+use native.Mathlib.Omega.{arith}
 use borrow.Author.Tests.{eq-eqb}
 use lib.Dec.{T, eqb, eqb→eq}
-use Rattle.terms.specs.Tests.{and-both, of-true}
+use lib.ListN.{length, getD, take}
+use Rattle.terms.specs.Tests.{and-both}
 use Rattle.block.specs.Block.{sameBytes}
 
 pub sameBytes-refl : (xs : List ℕ) → sameBytes xs xs ≡ true
@@ -24,11 +26,21 @@ sameBytes-true (x ∷ xs) (y ∷ ys) t =
     let q : xs ≡ ys = sameBytes-true xs ys (w .1) in
     cc
 
--- a test that agrees with equality is `sameBytes`
-pub same-is : (r : Bool) (xs ys : List ℕ) → (r ≡ true → xs ≡ ys) → (xs ≡ ys → r ≡ true) → r ≡ sameBytes xs ys
-same-is true xs ys f g = sym (ap (sameBytes xs) (sym (f refl)) ∙ sameBytes-refl xs)
-same-is false xs ys f g = other (sameBytes xs ys) (λ t. of-true (g (sameBytes-true xs ys t)))
-  where
-    other : (b : Bool) → (T b → T false) → false ≡ b
-    other true h = absurd (h tt)
-    other false h = refl
+and-true : (b : Bool) → b && true ≡ b
+and-true true = refl
+and-true false = refl
+
+and-assoc : (a b c : Bool) → a && (b && c) ≡ (a && b) && c
+and-assoc true b c = refl
+and-assoc false b c = refl
+
+-- one byte more
+pub same-more : (xs ys : List ℕ) (i : ℕ) → i < length xs → i < length ys →
+    sameBytes (take (suc i) xs) (take (suc i) ys) ≡ (sameBytes (take i xs) (take i ys) && eqb (getD xs i 0) (getD ys i 0))
+unfolding sameBytes
+same-more [] ys i h l = let z : ⊥ = omega arith in absurd z
+same-more (x ∷ xs) [] i h l = let z : ⊥ = omega arith in absurd z
+same-more (x ∷ xs) (y ∷ ys) zero h l = and-true (eqb x y)
+same-more (x ∷ xs) (y ∷ ys) (suc i) h l =
+    ap (λ b. eqb x y && b) (same-more xs ys i (omega arith) (omega arith))
+    ∙ and-assoc (eqb x y) (sameBytes (take i xs) (take i ys)) (eqb (getD xs i 0) (getD ys i 0))

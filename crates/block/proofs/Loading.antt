@@ -22,7 +22,6 @@ use Rattle.block.specs.Block.{settingsAt, ruleRead, markRead, tab, readH
 use Rattle.block.specs.Layout.{HEADER, RULE-BYTES, MARK-BYTES, MARKS-AT, SIZE, encode}
 use Rattle.block.specs.Places.{placeFrom, markFrom, Filled, Not-good}
 use Rattle.block.proofs.Tab.{map-tab, length-tab}
-use Rattle.block.proofs.Equal.{same-is}
 
 -- a test turned round
 pub not-back : (b c : Bool) → not b ≡ c → b ≡ not c
@@ -71,12 +70,12 @@ module _ (b : List ℕ) (s : State) (rule-count : s .«rule_count» ≡ little 2
   -- the comparison decides, once the limits are kept
   pub loaded :
       Counts-in s → limits (heldOf s) ≡ true → (same : Bool) (copy z : List ℕ) → copy ≡ encode (heldOf s) ++ drop SIZE z → SIZE ≡ length z →
-      (same ≡ true → copy ≡ take SIZE b) → (copy ≡ take SIZE b → same ≡ true) → Loaded-as b (record { good = same; state = s })
+      same ≡ sameBytes copy (take SIZE b) → Loaded-as b (record { good = same; state = s })
   unfolding good
-  loaded counts kept same copy z e n f g =
+  loaded counts kept same copy z e n f =
       let l : length z ≤ SIZE = omega arith in
       let d : copy ≡ encode (readHeld b) =
       e ∙ ap (λ (x : List ℕ). encode (heldOf s) ++ x) (drop-of-length-le z l) ∙ append-nil (encode (heldOf s)) ∙ ap encode held-in in
-      let v : same ≡ sameBytes (encode (readHeld b)) (take SIZE b) = same-is same (encode (readHeld b)) (take SIZE b) (λ t. sym d ∙ f t) (λ t. g (d ∙ t)) in
+      let v : same ≡ sameBytes (encode (readHeld b)) (take SIZE b) = f ∙ ap (λ (x : List ℕ). sameBytes x (take SIZE b)) d in
       let k : limits (readHeld b) ≡ true = sym (ap limits held-in) ∙ kept in
       record { verdict = v ∙ sym (rw k); held = λ t. held-in; counts = counts }

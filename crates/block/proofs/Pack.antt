@@ -1,4 +1,4 @@
--- Parts laid over zeros are the block's bytes: each part that is laid is filled up with the zeros that stand behind it. Assumes nothing.
+-- Parts laid one behind the other are one part, and over zeros they are the block's bytes: each is filled up with the zeros behind it. Assumes nothing.
 use mathlib.Core.Path.{_≡_, sym, ap, _∙_}
 use mathlib.Core.List.{List, _++_, append-assoc, map}
 use Prim.Native.Nat.{ℕ, _+_, _-_, _*_, _≤_}
@@ -43,6 +43,17 @@ drop-zeros m n t h =
     let s : zeros n ++ t ≡ zeros m ++ (zeros (n - m) ++ t) =
     ap (λ (z : List ℕ). z ++ t) (ap zeros (sym e) ∙ sym (zeros-add m (n - m))) ∙ append-assoc (zeros m) (zeros (n - m)) t in
     ap (drop m) s ∙ drop-at (zeros m) (zeros (n - m) ++ t) m (length-zeros m)
+
+-- three parts laid one behind the other are one part
+pub lay-three :
+    (l l1 l2 l3 p q r : List ℕ) (at m n : ℕ) → l1 ≡ put l at p → l2 ≡ put l1 m q → l3 ≡ put l2 n r →
+    m ≡ at + length p → n ≡ m + length q → n ≤ length l → l3 ≡ put l at (p ++ (q ++ r))
+lay-three l l1 l2 l3 p q r at m n e1 e2 e3 hm hn h =
+    let z : n ≡ at + length (p ++ q) = simp length-append (omega arith) in
+    e3
+    ∙ ap (λ (x : List ℕ). put x n r) (e2 ∙ ap (λ (x : List ℕ). put x m q) e1 ∙ put-put l at m p q hm (omega arith))
+    ∙ put-put l at n (p ++ q) r z h
+    ∙ ap (put l at) (append-assoc p q r)
 
 put-front : (l x : List ℕ) → put l 0 x ≡ x ++ drop (length x) l
 unfolding put
@@ -169,10 +180,10 @@ module _ (s : State) (in-places : Counts-in s) where
   marks-many = length-take-le (s .«mark_count») (s .marks) (omega (arith, in-places .mark-places, in-places .few-marks))
 
   places-fit : length (cat placeBytesOf places) ≤ RULES * RULE-BYTES
-  places-fit = omega (arith, length-cat placeBytesOf 8 place-size places, places-many, in-places .few-rules)
+  places-fit = omega (arith, length-cat placeBytesOf RULE-BYTES place-size places, places-many, in-places .few-rules)
 
   marks-fit : length (cat markBytes marks) ≤ MARKS * MARK-BYTES
-  marks-fit = omega (arith, length-cat markBytes 8 mark-size marks, marks-many, in-places .few-marks)
+  marks-fit = omega (arith, length-cat markBytes MARK-BYTES mark-size marks, marks-many, in-places .few-marks)
 
   abbrev set : List ℕ
   set = settingsBytes (s .settings)

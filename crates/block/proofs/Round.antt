@@ -1,4 +1,4 @@
--- What is encoded is read back: each place's eight bytes give its rule or mark again, since the limits keep the fields in their bytes. Assumes nothing.
+-- What is encoded is read back: each place's bytes give its rule or mark again, since the limits keep the fields in their bytes. Assumes nothing.
 use mathlib.Core.Path.{_≡_, refl, sym, ap, _∙_, subst}
 use mathlib.Core.Bool.{Bool, true, false, cond, _&&_}
 use mathlib.Core.List.{List, [], _∷_, _++_, append-assoc}
@@ -10,7 +10,7 @@ use lib.IntN.{ℤ}
 use lib.ListN.{length, getD, take, length-append, List·getD-append}
 use lib.Seq.{getD-append-add, take-at}
 use mir.Syntax.{w32}
-use mir.Val.{SFits, toZ, ofZ}
+use mir.Val.{SFits, ofZ}
 use mir.ValLaws.{ofZ-fits, toZ-ofZ}
 use Rattle.codec.specs.Bytes.{little, bytes}
 use Rattle.codec.proofs.Laws.{little-same, little-bytes, length-bytes}
@@ -22,10 +22,11 @@ use Rattle.terms.specs.declared.Atom.the-variants.{Has, Linked}
 use Rattle.terms.specs.declared.Mark.{Mark}
 use Rattle.terms.specs.Tests.{and-both, true-of}
 use Rattle.terms.specs.declared.Settings.{Settings}
-use Rattle.terms.specs.Limits.{RULES, MARKS, isDepth}
+use Rattle.terms.specs.Limits.{RULES, MARKS}
 use Rattle.terms.specs.Operators.{operatorOf, codeOf, distanceOf, isOperator, orIdentity}
 use Rattle.terms.specs.Readings.{operator-read, distance-fits, depth-fits}
-use Rattle.terms.specs.Held.{Held, isNamed, isRule, isMarkable, isMark, emptyHeld}
+use Rattle.terms.specs.Held.{Held, isNamed, isRule, isMark, emptyHeld}
+use Rattle.terms.specs.Ends.{top-placed, bottom-placed}
 use Rattle.terms.specs.Places.{emptyMark}
 use Rattle.terms.specs.Lists.{every, limits}
 use Rattle.terms.specs.Limited.{Limited, limited}
@@ -75,9 +76,9 @@ length-encode h few-rules few-marks =
     let marks = padded (MARKS * MARK-BYTES) (cat markBytes (h .marks)) in
     let s : length settings ≡ HEADER - SETTINGS-AT = length-padded (HEADER - SETTINGS-AT) (settingsBytes (h .settings)) (settings-size (h .settings)) in
     let r : length rules ≡ RULES * RULE-BYTES =
-    length-padded (RULES * RULE-BYTES) (cat ruleBytes (h .rules)) (omega (arith, length-cat ruleBytes 8 rule-size (h .rules))) in
+    length-padded (RULES * RULE-BYTES) (cat ruleBytes (h .rules)) (omega (arith, length-cat ruleBytes RULE-BYTES rule-size (h .rules))) in
     let m : length marks ≡ MARKS * MARK-BYTES =
-    length-padded (MARKS * MARK-BYTES) (cat markBytes (h .marks)) (omega (arith, length-cat markBytes 8 mark-size (h .marks))) in
+    length-padded (MARKS * MARK-BYTES) (cat markBytes (h .marks)) (omega (arith, length-cat markBytes MARK-BYTES mark-size (h .marks))) in
     let p : length (rules ++ marks) ≡ SIZE - HEADER = length-append rules marks ∙ omega arith in
     rw (length-append (bytes 2 (length (h .rules))), length-append (bytes 2 (length (h .marks))), length-append settings, p, s, length-bytes, length-bytes)
 
@@ -88,7 +89,7 @@ no-count = refl
 -- where nothing is held all bytes are zero
 pub encode-empty : encode emptyHeld ≡ zeros SIZE
 unfolding encode cat
-encode-empty = rw (no-count, zeros-add 1024 2048, zeros-add 28 3072, zeros-add 2 3100, zeros-add 2 3102)
+encode-empty = rw (no-count, zeros-add 1024 3072, zeros-add 28 4096, zeros-add 2 4124, zeros-add 2 4126)
 
 -- ---- what the limits say
 
@@ -103,31 +104,51 @@ operator-back o t = ap orIdentity (operator-read o t)
 
 -- ---- a place
 
--- the eight bytes from `at` on are those of v
-record Stands (s : List ℕ) (at : ℕ) (v : List ℕ) : Type 0 where
-  same : (j : ℕ) → j < 8 → getD s (at + j) 0 ≡ getD v j 0
+-- a number behind the n bytes p
+count-back : (k x n : ℕ) (p q : List ℕ) → length p ≡ n → x < 256 ^ k → little k (p ++ (bytes k x ++ q)) n ≡ x
+count-back k x n p q e h =
+    little-same k _ (bytes k x) n 0 (λ (i : ℕ) (l : i < k).
+    let z : 0 + i ≡ i = omega arith in
+    rw (z, ← e) (getD-append-add p (bytes k x ++ q) i 0 ∙ List·getD-append (bytes k x) q 0 i (rw length-bytes l)))
+    ∙ little-bytes k x h
 
-module _ (s : List ℕ) (at k a b c n : ℕ) (fits : n < 256 ^ 4) (h : Stands s at (k ∷ a ∷ b ∷ c ∷ bytes 4 n)) where
-  kind-back : getD s at 0 ≡ k
-  kind-back = let z : at + 0 ≡ at = omega arith in rw z at (h .same 0 (lit< tt))
+-- the n bytes from `at` on are those of v
+record Stands (n : ℕ) (s : List ℕ) (at : ℕ) (v : List ℕ) : Type 0 where
+  same : (j : ℕ) → j < n → getD s (at + j) 0 ≡ getD v j 0
 
-  number-back : little 4 s (at + 4) ≡ n
-  number-back =
-      little-same 4 s (bytes 4 n) (at + 4) 0 (λ (i : ℕ) (l : i < 4).
-      let e : at + 4 + i ≡ at + (4 + i) = omega arith in
-      let f : 4 + i ≡ suc (suc (suc (suc i))) = omega arith in
-      let g : 0 + i ≡ i = omega arith in
-      rw (e, g) (h .same (4 + i) (omega arith) ∙ ap (λ (m : ℕ). getD (k ∷ a ∷ b ∷ c ∷ bytes 4 n) m 0) f))
-      ∙ little-bytes 4 n fits
+-- so its first byte is that of v, and a number inside it is the one inside v
+module _ (n : ℕ) (s : List ℕ) (at : ℕ) (v : List ℕ) (h : Stands n s at v) where
+  first-back : 0 < n → getD s at 0 ≡ getD v 0 0
+  first-back l = let z : at + 0 ≡ at = omega arith in rw z at (h .same 0 l)
 
-  rule-place : ruleRead s at ≡ ruleOf k a b c n
-  rule-place = rw (kind-back, h .same 1 (lit< tt), h .same 2 (lit< tt), h .same 3 (lit< tt), number-back)
+  number-back : (k m : ℕ) → m + k ≤ n → little k s (at + m) ≡ little k v m
+  number-back k m l =
+      little-same k s v (at + m) m (λ (i : ℕ) (j : i < k).
+      let e : at + m + i ≡ at + (m + i) = omega arith in
+      rw e (h .same (m + i) (omega arith)))
 
-  mark-place : markRead s at ≡ markOf k a b c (toZ w32 n)
-  mark-place = rw (kind-back, h .same 1 (lit< tt), h .same 2 (lit< tt), h .same 3 (lit< tt), number-back)
+rule-place : (s : List ℕ) (at k a b c n : ℕ) → n < 256 ^ 4 → Stands RULE-BYTES s at (placeBytes k a b c n) → ruleRead s at ≡ ruleOf k a b c n
+unfolding placeBytes bytes
+rule-place s at k a b c n f h =
+    let kind = first-back RULE-BYTES s at (placeBytes k a b c n) h (lit< tt) in
+    let number = number-back RULE-BYTES s at (placeBytes k a b c n) h 4 4 (omega arith) ∙ count-back 4 n 4 (k ∷ a ∷ b ∷ c ∷ []) [] refl f in
+    rw (kind, h .same 1 (lit< tt), h .same 2 (lit< tt), h .same 3 (lit< tt), number)
 
-rule-back : (s : List ℕ) (at : ℕ) (ρ : Rule) → T (isRule ρ) → Stands s at (ruleBytes ρ) → ruleRead s at ≡ ρ
-unfolding placeBytes ruleOf
+mark-place :
+    (s : List ℕ) (at k a b c : ℕ) (t d : ℤ) → SFits w32 t → SFits w32 d → Stands MARK-BYTES s at (markBytesOf k a b c t d) →
+    markRead s at ≡ markOf k a b c t d
+unfolding markBytesOf bytes
+mark-place s at k a b c t d f g h =
+    let v : List ℕ = markBytesOf k a b c t d in
+    let x : ℕ = ofZ w32 t in
+    let y : ℕ = ofZ w32 d in
+    let kind = first-back MARK-BYTES s at v h (lit< tt) in
+    let top = number-back MARK-BYTES s at v h 4 4 (omega arith) ∙ count-back 4 x 4 (k ∷ a ∷ b ∷ c ∷ []) (bytes 4 y) refl (ofZ-fits w32 t f .fits) in
+    let bottom = number-back MARK-BYTES s at v h 4 8 (omega arith) ∙ count-back 4 y 8 (k ∷ a ∷ b ∷ c ∷ bytes 4 x) [] refl (ofZ-fits w32 d g .fits) in
+    rw (kind, h .same 1 (lit< tt), h .same 2 (lit< tt), h .same 3 (lit< tt), top, bottom, toZ-ofZ w32 t f, toZ-ofZ w32 d g)
+
+rule-back : (s : List ℕ) (at : ℕ) (ρ : Rule) → T (isRule ρ) → Stands RULE-BYTES s at (ruleBytes ρ) → ruleRead s at ≡ ρ
+unfolding ruleOf
 rule-back s at (Label o A B) t h =
     let w = and-both (isOperator o) (isNamed (Label o A B)) t .0 in
     rule-place s at 2 (codeOf o) A B (distanceOf o) (distance-fits o w) h ∙ ap (λ (x : Operator). Label x A B) (operator-back o w)
@@ -137,24 +158,16 @@ rule-back s at (Link o r s′) t h =
     rule-place s at 4 (codeOf o) r s′ (distanceOf o) (distance-fits o w) h ∙ ap (λ (x : Operator). Link x r s′) (operator-back o w)
 rule-back s at (Via r A B) t h = rule-place s at 5 r A B 0 (omega arith) h
 
-atom-back : (s : List ℕ) (at : ℕ) (x : Atom) (d : ℤ) → SFits w32 d → Stands s at (atomBytes x d) → markRead s at ≡ record { atom = x; depth = d }
-unfolding markBytesOf markOf
-atom-back s at (Has a A) d f h =
-    mark-place s at 6 a A 0 (ofZ w32 d) (ofZ-fits w32 d f .fits) h ∙ ap (λ (z : ℤ). record { atom = Has a A; depth = z }) (toZ-ofZ w32 d f)
-atom-back s at (Linked a r b) d f h =
-    mark-place s at 7 a r b (ofZ w32 d) (ofZ-fits w32 d f .fits) h ∙ ap (λ (z : ℤ). record { atom = Linked a r b; depth = z }) (toZ-ofZ w32 d f)
+atom-back :
+    (s : List ℕ) (at : ℕ) (x : Atom) (t d : ℤ) → SFits w32 t → SFits w32 d → Stands MARK-BYTES s at (atomBytes x t d) →
+    markRead s at ≡ record { atom = x; top = t; bottom = d }
+unfolding markOf
+atom-back s at (Has a A) t d f g h = mark-place s at 6 a A 0 t d f g h
+atom-back s at (Linked a r b) t d f g h = mark-place s at 7 a r b t d f g h
 
-mark-back : (s : List ℕ) (at : ℕ) (m : Mark) → T (isMark m) → Stands s at (markBytes m) → markRead s at ≡ m
+mark-back : (s : List ℕ) (at : ℕ) (m : Mark) → T (isMark m) → Stands MARK-BYTES s at (markBytes m) → markRead s at ≡ m
 mark-back s at m t h =
-    atom-back s at (m .atom) (m .depth) (depth-fits (m .depth) (and-both (isMarkable (m .atom)) (isDepth (m .depth)) t .1)) h
-
--- a number behind the n bytes p
-count-back : (k x n : ℕ) (p q : List ℕ) → length p ≡ n → x < 256 ^ k → little k (p ++ (bytes k x ++ q)) n ≡ x
-count-back k x n p q e h =
-    little-same k _ (bytes k x) n 0 (λ (i : ℕ) (l : i < k).
-    let z : 0 + i ≡ i = omega arith in
-    rw (z, ← e) (getD-append-add p (bytes k x ++ q) i 0 ∙ List·getD-append (bytes k x) q 0 i (rw length-bytes l)))
-    ∙ little-bytes k x h
+    atom-back s at (m .atom) (m .top) (m .bottom) (depth-fits (m .top) (top-placed m t)) (depth-fits (m .bottom) (bottom-placed m t)) h
 
 -- ---- the whole block
 
@@ -198,27 +211,27 @@ module _ (h : Held) (within : T (limits h)) (t : List ℕ) where
 
   length-head : length head ≡ MARKS-AT
   length-head =
-      length-append front (padded (RULES * RULE-BYTES) rule-bytes)
-      ∙ omega (arith, length-front, length-padded (RULES * RULE-BYTES) rule-bytes (omega (arith, k .few-rules, length-cat ruleBytes 8 rule-size (h .rules))))
+      let r = length-padded (RULES * RULE-BYTES) rule-bytes (omega (arith, k .few-rules, length-cat ruleBytes RULE-BYTES rule-size (h .rules))) in
+      length-append front (padded (RULES * RULE-BYTES) rule-bytes) ∙ omega (arith, length-front, r)
 
-  rule-stands : (i : ℕ) (d : Rule) → i < length (h .rules) → Stands block (HEADER + RULE-BYTES * i) (ruleBytes (getD (h .rules) i d))
+  rule-stands : (i : ℕ) (d : Rule) → i < length (h .rules) → Stands RULE-BYTES block (HEADER + RULE-BYTES * i) (ruleBytes (getD (h .rules) i d))
   rule-stands i d l = record {
     same = λ j m.
-        let z : HEADER + RULE-BYTES * i + j ≡ length front + (8 * i + j) = omega (arith, length-front) in
+        let z : HEADER + RULE-BYTES * i + j ≡ length front + (RULE-BYTES * i + j) = omega (arith, length-front) in
         ap (λ (x : List ℕ). getD x (HEADER + RULE-BYTES * i + j) 0) to-rules
         ∙ ap (λ (n : ℕ). getD (front ++ (rule-bytes ++ behind-rules)) n 0) z
-        ∙ getD-append-add front (rule-bytes ++ behind-rules) (8 * i + j) 0
-        ∙ cat-get ruleBytes 8 rule-size (h .rules) behind-rules i j d l m;
+        ∙ getD-append-add front (rule-bytes ++ behind-rules) (RULE-BYTES * i + j) 0
+        ∙ cat-get ruleBytes RULE-BYTES rule-size (h .rules) behind-rules i j d l m;
   }
 
-  mark-stands : (i : ℕ) (d : Mark) → i < length (h .marks) → Stands block (MARKS-AT + MARK-BYTES * i) (markBytes (getD (h .marks) i d))
+  mark-stands : (i : ℕ) (d : Mark) → i < length (h .marks) → Stands MARK-BYTES block (MARKS-AT + MARK-BYTES * i) (markBytes (getD (h .marks) i d))
   mark-stands i d l = record {
     same = λ j m.
-        let z : MARKS-AT + MARK-BYTES * i + j ≡ length head + (8 * i + j) = omega (arith, length-head) in
+        let z : MARKS-AT + MARK-BYTES * i + j ≡ length head + (MARK-BYTES * i + j) = omega (arith, length-head) in
         ap (λ (x : List ℕ). getD x (MARKS-AT + MARK-BYTES * i + j) 0) to-marks
         ∙ ap (λ (n : ℕ). getD (head ++ (mark-bytes ++ behind-marks)) n 0) z
-        ∙ getD-append-add head (mark-bytes ++ behind-marks) (8 * i + j) 0
-        ∙ cat-get markBytes 8 mark-size (h .marks) behind-marks i j d l m;
+        ∙ getD-append-add head (mark-bytes ++ behind-marks) (MARK-BYTES * i + j) 0
+        ∙ cat-get markBytes MARK-BYTES mark-size (h .marks) behind-marks i j d l m;
   }
 
   rule-count : little 2 block 0 ≡ length (h .rules)

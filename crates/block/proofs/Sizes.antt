@@ -1,4 +1,4 @@
--- The settings fit the header; each place is 8 bytes, by its cases; and zeros are as many as they say. Assumes nothing.
+-- The settings fit the header; each place has the bytes of its list, by its cases; and zeros are as many as they say. Assumes nothing.
 use mathlib.Core.Path.{_≡_, refl}
 use mathlib.Core.List.{List}
 use Prim.Native.Nat.{ℕ, _-_, _≤_}
@@ -23,6 +23,8 @@ use Rattle.block.specs.Layout.{
   zeros,
   SETTINGS-AT,
   HEADER,
+  RULE-BYTES,
+  MARK-BYTES,
   padded,
 }
 use Rattle.block.specs.Places.{placeBytesOf}
@@ -30,23 +32,23 @@ use Rattle.block.specs.Places.{placeBytesOf}
 pub settings-size : (σ : Settings) → length (settingsBytes σ) ≤ HEADER - SETTINGS-AT
 settings-size σ = omega arith
 
-pub rule-size : (ρ : Rule) → length (ruleBytes ρ) ≡ 8
+pub rule-size : (ρ : Rule) → length (ruleBytes ρ) ≡ RULE-BYTES
 unfolding placeBytes bytes
 rule-size (Label o A B) = refl
 rule-size (Both A B C) = refl
 rule-size (Link o r s) = refl
 rule-size (Via r A B) = refl
 
-pub place-size : (p : RulePlace) → length (placeBytesOf p) ≡ 8
+pub place-size : (p : RulePlace) → length (placeBytesOf p) ≡ RULE-BYTES
 place-size p = rule-size (p .rule)
 
-atom-size : (x : Atom) (d : ℤ) → length (atomBytes x d) ≡ 8
+atom-size : (x : Atom) (t d : ℤ) → length (atomBytes x t d) ≡ MARK-BYTES
 unfolding markBytesOf bytes
-atom-size (Has a A) d = refl
-atom-size (Linked a r b) d = refl
+atom-size (Has a A) t d = refl
+atom-size (Linked a r b) t d = refl
 
-pub mark-size : (m : Mark) → length (markBytes m) ≡ 8
-mark-size m = atom-size (m .atom) (m .depth)
+pub mark-size : (m : Mark) → length (markBytes m) ≡ MARK-BYTES
+mark-size m = atom-size (m .atom) (m .top) (m .bottom)
 
 pub length-zeros : (n : ℕ) → length (zeros n) ≡ n
 unfolding zeros

@@ -31,11 +31,12 @@ abbrev pub ruleRead : List ℕ → ℕ → Rule
 ruleRead b at = ruleOf (getD b at 0) (getD b (at + 1) 0) (getD b (at + 2) 0) (getD b (at + 3) 0) (little 4 b (at + 4))
 
 -- a mark place, read
-unfoldable pub markOf : ℕ → ℕ → ℕ → ℕ → ℤ → Mark
-markOf k a b c d = cond (eqb k 6) (record { atom = Has a b; depth = d }) (record { atom = Linked a b c; depth = d })
+unfoldable pub markOf : ℕ → ℕ → ℕ → ℕ → ℤ → ℤ → Mark
+markOf k a b c t d = cond (eqb k 6) (record { atom = Has a b; top = t; bottom = d }) (record { atom = Linked a b c; top = t; bottom = d })
 
+-- the mark in the twelve bytes from `at` on
 abbrev pub markRead : List ℕ → ℕ → Mark
-markRead b at = markOf (getD b at 0) (getD b (at + 1) 0) (getD b (at + 2) 0) (getD b (at + 3) 0) (signed32At b (at + 4))
+markRead b at = markOf (getD b at 0) (getD b (at + 1) 0) (getD b (at + 2) 0) (getD b (at + 3) 0) (signed32At b (at + 4)) (signed32At b (at + 8))
 
 -- the settings, read: none yet
 abbrev pub settingsAt : List ℕ → Settings

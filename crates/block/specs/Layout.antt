@@ -24,16 +24,16 @@ ruleBytes (Both A B C) = placeBytes 3 A B C 0
 ruleBytes (Link o r s) = placeBytes 4 (codeOf o) r s (distanceOf o)
 ruleBytes (Via r A B) = placeBytes 5 r A B 0
 
--- docs/STATE.md, a mark place: kind, three names, depth
-unfoldable pub markBytesOf : ℕ → ℕ → ℕ → ℕ → ℤ → List ℕ
-markBytesOf k a b c d = k ∷ a ∷ b ∷ c ∷ bytesOfSigned32 d
+-- docs/STATE.md, a mark place: kind, three names, top, bottom
+unfoldable pub markBytesOf : ℕ → ℕ → ℕ → ℕ → ℤ → ℤ → List ℕ
+markBytesOf k a b c t d = k ∷ a ∷ b ∷ c ∷ (bytesOfSigned32 t ++ bytesOfSigned32 d)
 
-abbrev pub atomBytes : Atom → ℤ → List ℕ
-atomBytes (Has a A) d = markBytesOf 6 a A 0 d
-atomBytes (Linked a r b) d = markBytesOf 7 a r b d
+abbrev pub atomBytes : Atom → ℤ → ℤ → List ℕ
+atomBytes (Has a A) t d = markBytesOf 6 a A 0 t d
+atomBytes (Linked a r b) t d = markBytesOf 7 a r b t d
 
 abbrev pub markBytes : Mark → List ℕ
-markBytes m = atomBytes (m .atom) (m .depth)
+markBytes m = atomBytes (m .atom) (m .top) (m .bottom)
 
 -- docs/STATE.md, the settings in the header: none yet
 abbrev pub settingsBytes : Settings → List ℕ
@@ -58,7 +58,7 @@ abbrev pub RULE-BYTES : ℕ
 RULE-BYTES = 8
 
 abbrev pub MARK-BYTES : ℕ
-MARK-BYTES = 8
+MARK-BYTES = 12
 
 abbrev pub MARKS-AT : ℕ
 MARKS-AT = HEADER + RULES * RULE-BYTES

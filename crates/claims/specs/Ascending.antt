@@ -5,14 +5,11 @@ use mathlib.Core.Bool.{Bool, true, false, cond}
 use mathlib.Core.List.{List, [], _∷_, _++_, List·Memᴰ·head, List·Memᴰ·tail, List·Memᴰ·cases-cons, List·Memᴰ·not-nil}
 use Prim.Native.Nat.{ℕ, _≤_, _<_}
 use native.Mathlib.Omega.{arith}
-use native.Mathlib.Decide.{decLt}
-use borrow.Author.Tests.{ne-eqb}
 use lib.Dec.{T}
 use Rattle.terms.specs.declared.Tested.{Tested}
 use Rattle.terms.specs.declared.Tested.the-variants as Tested
 use Rattle.terms.specs.Refusals.{rank, Test, tested}
 use Rattle.terms.specs.Otherwise.{orElse}
-use Rattle.terms.specs.Ranks.{rank-same}
 use Rattle.terms.specs.Held.{_∈_}
 use Rattle.claims.specs.Table.{Ascends}
 
@@ -103,36 +100,3 @@ tested-lowest low high (u ∷ ts) a n e t m p =
     go true f d k (inr q) = subst (λ v. rank v ≤ rank (t .number)) (same-number d) (in-range (rank (u .number)) high ts (a .2) t q .0)
     go false f d k (inl s) = absurd (subst T (ap (λ (v : Test). v .applies) s ∙ f) p)
     go false f d k (inr q) = k d q
-
--- ---- ranks and numbers
-
-past-last : (n : ℕ) → 12 < n → rank n ≡ 13
-unfolding rank
-past-last n l =
-    simp (
-      ne-eqb n 1 (λ e. omega arith),
-      ne-eqb n 2 (λ e. omega arith),
-      ne-eqb n 3 (λ e. omega arith),
-      ne-eqb n 4 (λ e. omega arith),
-      ne-eqb n 5 (λ e. omega arith),
-      ne-eqb n 6 (λ e. omega arith),
-      ne-eqb n 7 (λ e. omega arith),
-      ne-eqb n 8 (λ e. omega arith),
-      ne-eqb n 9 (λ e. omega arith),
-      ne-eqb n 10 (λ e. omega arith),
-      ne-eqb n 11 (λ e. omega arith),
-      ne-eqb n 12 (λ e. omega arith),
-    )
-
-no-number : rank 0 ≡ 13
-unfolding rank
-no-number = refl
-
--- a number that is in the order is its own rank, so that lowest by rank is lowest by number
-pub rank-number : (n : ℕ) → rank n ≤ 12 → rank n ≡ n
-rank-number n h = go (decLt 0 n) (decLt n 13)
-  where
-    go : Dec (0 < n) → Dec (n < 13) → rank n ≡ n
-    go (yes l) (yes k) = rank-same n l (omega arith)
-    go (yes l) (no k) = let z : ⊥ = omega (arith, past-last n (omega arith)) in absurd z
-    go (no l) d = let e : n ≡ 0 = omega arith in let z : ⊥ = omega (arith, ap rank e, no-number) in absurd z

@@ -146,6 +146,7 @@ module _ (h : Held) (w : Limited h) (m : Buffers) (u : ℕ) where
         by-interpretations = by-interpretations q;
         number = interval h;
         count = count h;
+        few = omega (arith, few-cuts h w);
         pieces = pieces h;
         tables = table-exact h (few-cuts h w) (drop LABEL-ENTRIES (m .labels)) (drop LINK-ENTRIES (m .links));
       }

@@ -50,7 +50,7 @@ by-kind P (n ∷ ns) w k f = go (eqb k n) refl (λ e. by-kind P ns (w .1) k (λ 
     go false e c = c e
 
 abbrev numbers : List ℕ
-numbers = 1 ∷ 2 ∷ 3 ∷ 4 ∷ 5 ∷ 6 ∷ 7 ∷ 8 ∷ 9 ∷ 10 ∷ 11 ∷ 12 ∷ []
+numbers = 1 ∷ 2 ∷ 3 ∷ 4 ∷ 5 ∷ 6 ∷ 7 ∷ 8 ∷ 9 ∷ 10 ∷ 11 ∷ 12 ∷ 13 ∷ 14 ∷ 15 ∷ 16 ∷ []
 
 -- ---- rows from 6 on
 
@@ -73,14 +73,18 @@ unknown h k b v =
     let (n₉, v₉) = v₈ in
     let (n₁₀, v₁₀) = v₉ in
     let (n₁₁, v₁₁) = v₁₀ in
-    let n₁₂ = v₁₁ .0 in
-    (simp (n₁, n₂, n₃, n₄, n₅, n₆, n₇, n₈, n₉, n₁₀, n₁₁, n₁₂), simp (n₁, n₂, n₃, n₄, n₅, n₆, n₇, n₈, n₉, n₁₀, n₁₁, n₁₂))
+    let (n₁₂, v₁₂) = v₁₁ in
+    let (n₁₃, v₁₃) = v₁₂ in
+    let (n₁₄, v₁₄) = v₁₃ in
+    let (n₁₅, v₁₅) = v₁₄ in
+    let n₁₆ = v₁₅ .0 in
+    (simp (n₁, n₂, n₃, n₄, n₅, n₆, n₇, n₈, n₉, n₁₀, n₁₁, n₁₂, n₁₃, n₁₄, n₁₅, n₁₆), simp (n₁, n₂, n₃, n₄, n₅, n₆, n₇, n₈, n₉, n₁₀, n₁₁, n₁₂, n₁₃, n₁₄, n₁₅, n₁₆))
 
 pub record-rows : (h : Held) (k : ℕ) (b : List ℕ) → tested (recordTests h k b) ≡ tested (recordRows h k b)
 unfolding bodyTests commandIn saidBy
 record-rows h k b =
     by-kind (λ n. tested (recordTests h n b) ≡ tested (recordRows h n b)) numbers
-    (refl, (refl, (refl, (refl, (refl, (refl, (refl, (refl, (refl, (refl, (refl, (refl, tt)))))))))))) k
+    (refl, (refl, (refl, (refl, (refl, (refl, (refl, (refl, (refl, (refl, (refl, (refl, (refl, (refl, (refl, (refl, tt)))))))))))))))) k
     (λ v. unknown h k b v .0)
 
 -- ---- rows from 3 on
@@ -125,10 +129,4 @@ saidOf (Command.Ask q) = Asks q
 pub said-command : (k : ℕ) (b : List ℕ) → isUnknown (lengthsOf k) ≡ false → saidOf (commandIn k b) ≡ saidBy k b
 unfolding commandIn saidBy lengthsOf
 said-command k b =
-    by-kind (λ n. isUnknown (lengthsOf n) ≡ false → saidOf (commandIn n b) ≡ saidBy n b) numbers (
-      λ e. refl,
-      (
-        λ e. refl,
-        (λ e. refl, (λ e. refl, (λ e. refl, (λ e. refl, (λ e. refl, (λ e. refl, (λ e. refl, (λ e. refl, (λ e. refl, (λ e. refl, tt)))))))))),
-      ),
-    ) k (λ v e. absurd (true≢false (sym (unknown emptyHeld k b v .1) ∙ e)))
+    by-kind (λ n. isUnknown (lengthsOf n) ≡ false → saidOf (commandIn n b) ≡ saidBy n b) numbers (λ e. refl, (λ e. refl, (λ e. refl, (λ e. refl, (λ e. refl, (λ e. refl, (λ e. refl, (λ e. refl, (λ e. refl, (λ e. refl, (λ e. refl, (λ e. refl, (λ e. refl, (λ e. refl, (λ e. refl, (λ e. refl, tt)))))))))))))))) k (λ v e. absurd (true≢false (sym (unknown emptyHeld k b v .1) ∙ e)))

@@ -2,9 +2,10 @@
 -- which Whole gives.
 use mathlib.Core.Path.{_≡_, refl, sym, ap, _∙_, subst}
 use mathlib.Core.Logic.{⊎-elim, _↔_}
-use mathlib.Core.Bool.{Bool, true, false, not, _&&_, _||_}
+use mathlib.Core.Bool.{Bool, true, false, not, _||_}
 use mathlib.Core.List.{List, [], _∷_, _++_, append-assoc, append-nil, List·Memᴰ·head, List·Memᴰ·tail, Memᴰ·append-left, Memᴰ·append-right}
-use Prim.Native.Nat.{ℕ, suc, _≤_, _<_, _+_}
+use mathlib.Core.List.{List·Memᴰ·append-cases, List·Memᴰ·eq-of-singleton}
+use Prim.Native.Nat.{ℕ, _≤_, _<_, _+_}
 use native.Mathlib.Omega.{arith}
 use lib.Dec.{T, ltb, leb, ltb→lt, leb→le}
 use lib.IntN.{ℤ, pos}
@@ -16,12 +17,10 @@ use Rattle.terms.specs.Limits.{RULES, MARKS, DEPTHS, LABEL-ENTRIES, LINK-ENTRIE
 use Rattle.terms.specs.declared.Settings.{Settings}
 use Rattle.terms.specs.declared.Tested.the-variants as Tested
 use Rattle.terms.specs.Refusals.{tested}
-use Rattle.terms.specs.Held.{_∈_, Held, isRule, isMark, isSettings, emptyHeld}
+use Rattle.terms.specs.Held.{_∈_, Held, endsOf, isRule, isMark, isSettings, emptyHeld}
 use Rattle.terms.specs.Same.{sameRule, sameMark}
-use Rattle.terms.specs.SameLaws.{same-rule, rule-same, same-mark, mark-same, depth-same}
+use Rattle.terms.specs.SameLaws.{same-rule, rule-same, same-mark, mark-same}
 use Rattle.terms.specs.Lists.{some, once, depthCount, limits}
-use Rattle.line.specs.Cuts.{insert, depthsOf}
-use Rattle.line.specs.CutLaws.{insert-asc, insert-only, Inserted, was-there, one-more, inserted, depths-only}
 use Rattle.block.specs.Layout.{SIZE, encode}
 use Rattle.block.specs.Block.{good}
 use Rattle.records.specs.declared.Command.{Command}
@@ -36,11 +35,7 @@ use Rattle.claims.specs.Kept.{
   limited,
   of-limited,
   empty-limited,
-  within-length,
-  depths-asc,
-  depths-in,
-  depth-count,
-  marksAt,
+  fewer-ends,
 }
 use Rattle.claims.specs.Reference.{Result}
 use Rattle.claims.specs.Lives.{Lending, fed, Bytes, Run-to, from-zeros, by-record}
@@ -110,35 +105,15 @@ not-before alike eq self (d ∷ done) x todo t = go (alike x d) (λ u. eq x d u)
         (subst (λ v. T (alike v x)) (f tt) (self x))))
     go false f e = e
 
--- room for a new depth: with it there are at most 96
-room : (done todo : List Mark) (m : Mark) → depthCount (done ++ (m ∷ todo)) ≤ DEPTHS →
-    (not (some (marksAt (m .depth)) done) && leb DEPTHS (depthCount done)) ≡ false
-room done todo m h = go (some (marksAt (m .depth)) done) (λ n. old n)
+-- room for a mark's ends: with those of all marks there are at most 96
+room : (done todo : List Mark) (m : Mark) → depthCount (endsOf (done ++ (m ∷ todo))) ≤ DEPTHS → ltb DEPTHS (depthCount (endsOf (done ++ (m ∷ [])))) ≡ false
+room done todo m h = not-short DEPTHS (depthCount (endsOf (done ++ (m ∷ [])))) (omega (arith, fewer-ends (done ++ (m ∷ [])) (done ++ (m ∷ todo)) more))
   where
-    old : m .depth ∈ depthsOf done → T (some (marksAt (m .depth)) done)
-    old n =
-        let v = depths-only done (m .depth) n in
-        in-some (marksAt (m .depth)) done (v .0) (v .1)
-        (subst (λ x. T (marksAt (m .depth) (record { atom = v .0 .atom; depth = x }))) (sym (v .2)) (depth-same (m .depth)))
-
-    all : (x : ℤ) → x ∈ insert (m .depth) (depthsOf done) → x ∈ depthsOf (done ++ (m ∷ todo))
-    all x n = ⊎-elim
-        (λ e. subst (λ v. v ∈ depthsOf (done ++ (m ∷ todo))) (sym e) (depths-in (done ++ (m ∷ todo)) m (Memᴰ·append-right done (List·Memᴰ·head refl))))
-        (λ o. let (k, p, e) = depths-only done x o in
-        subst (λ v. v ∈ depthsOf (done ++ (m ∷ todo))) e (depths-in (done ++ (m ∷ todo)) k (Memᴰ·append-left (m ∷ todo) p)))
-        (insert-only (m .depth) x (depthsOf done) n)
-
-    more : (m .depth ∈ depthsOf done → ⊥) → {ys : List ℤ} → Inserted (m .depth) (depthsOf done) ys → length ys ≡ suc (length (depthsOf done))
-    more f (was-there n) = absurd (f n)
-    more f (one-more e) = e
-
-    go : (b : Bool) → (m .depth ∈ depthsOf done → T b) → (not b && leb DEPTHS (depthCount done)) ≡ false
-    go true f = refl
-    go false f =
-        let w =
-        within-length (insert (m .depth) (depthsOf done)) (depthsOf (done ++ (m ∷ todo)))
-        (insert-asc (m .depth) (depthsOf done) (depths-asc done)) (depths-asc (done ++ (m ∷ todo))) all in
-        below DEPTHS (depthCount done) (omega (arith, more f (inserted (m .depth) (depthsOf done)), depth-count done, depth-count (done ++ (m ∷ todo))))
+    more : (k : Mark) → k ∈ (done ++ (m ∷ [])) → k ∈ (done ++ (m ∷ todo))
+    more k n = ⊎-elim
+        (λ o. Memᴰ·append-left (m ∷ todo) o)
+        (λ o. Memᴰ·append-right done (List·Memᴰ·head (List·Memᴰ·eq-of-singleton o)))
+        (List·Memᴰ·append-cases done n)
 
 module _ (𝓛 : Laws) (rule-record : (σ : Settings) (ρ : Rule) → T (isRule ρ) → Written σ (Command.Add ρ))
     (mark-record : (σ : Settings) (m : Mark) → T (isMark m) → Written σ (Command.Put m)) where
@@ -190,7 +165,7 @@ module _ (𝓛 : Laws) (rule-record : (σ : Settings) (ρ : Rule) → T (isRule 
     module _ (rs : List Rule) where
       reach-marks :
           (done todo : List Mark) → T (once sameMark (done ++ todo)) → ((m : Mark) → m ∈ todo → T (isMark m)) → length done + length todo ≤ MARKS →
-          depthCount (done ++ todo) ≤ DEPTHS → Reached (of-parts σ rs done) → Reached (of-parts σ rs (done ++ todo))
+          depthCount (endsOf (done ++ todo)) ≤ DEPTHS → Reached (of-parts σ rs done) → Reached (of-parts σ rs (done ++ todo))
       reach-marks done [] o p n k R = subst (λ v. Reached (of-parts σ rs v)) (sym (append-nil done)) R
       reach-marks done (m ∷ todo) o p n k R =
           let a = not-before sameMark same-mark mark-same done m todo o in
@@ -201,7 +176,7 @@ module _ (𝓛 : Laws) (rule-record : (σ : Settings) (ρ : Rule) → T (isRule 
           let e = append-assoc done (m ∷ []) todo in
           subst (λ v. Reached (of-parts σ rs v)) e
           (reach-marks (done ++ (m ∷ [])) todo (subst (λ v. T (once sameMark v)) (sym e) o) (λ τ q. p τ (List·Memᴰ·tail q))
-          (simp length-append (omega arith)) (subst (λ v. depthCount v ≤ DEPTHS) (sym e) k) s)
+          (simp length-append (omega arith)) (subst (λ v. depthCount (endsOf v) ≤ DEPTHS) (sym e) k) s)
 
   reachable : (h : Held) → Limited h → Reached h
   reachable h w =

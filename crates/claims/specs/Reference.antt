@@ -67,10 +67,10 @@ pub data Book (h : Held) (f : Fed) : Result → Held → Type 0 where
   ended : judgement h f ≡ Tested.Passed → length (f .bytes) ≡ 0 → Book h f (plain Answer.End 0) h
   -- RESET empties both lists
   emptied : Accepted h f Empties → Book h f (plain Answer.Done (recordUsed f)) emptyHeld
-  -- kinds 2 to 5 add their rule at the end of its list, kinds 6 and 7 their mark
+  -- kinds 2 to 5 add their rule at the end of its list, kinds 6, 7, 13 and 14 their mark
   added : {ρ : Rule} → Accepted h f (Adds ρ) → Book h f (plain Answer.Done (recordUsed f)) (withRules h (h .rules ++ (ρ ∷ [])))
   put : {m : Mark} → Accepted h f (Puts m) → Book h f (plain Answer.Done (recordUsed f)) (withMarks h (h .marks ++ (m ∷ [])))
-  -- kinds 8 and 9 strike the mark with the same fields; those behind it move up
+  -- kinds 8, 9, 15 and 16 strike the mark with the same fields; those behind it move up
   struck : {m : Mark} → Accepted h f (Takes m) → Book h f (plain Answer.Done (recordUsed f)) (withMarks h (strike (sameMark m) (h .marks)))
   -- questions change nothing; what is held and the interpretations that satisfy it decide them
   answered : {q : Question} (r : Reply) → Accepted h f (Asks q) → Decides h q r → Book h f (shown r (recordUsed f)) h

@@ -14,6 +14,7 @@ use Rattle.terms.specs.declared.Question.{Question}
 use Rattle.terms.specs.declared.Tested.{Tested}
 use Rattle.terms.specs.declared.Tested.the-variants as Tested
 use Rattle.terms.specs.Refusals.{rank, Test, test, tested}
+use Rattle.terms.specs.Ranks.{rank-number, rank-lower}
 use Rattle.terms.specs.Otherwise.{onTested, orElse}
 use Rattle.terms.specs.Held.{_∈_, Held}
 use Rattle.block.specs.Block.{readHeld, good}
@@ -37,7 +38,6 @@ use Rattle.claims.specs.Ascending.{
   wider,
   tested-in,
   tested-lowest,
-  rank-number,
   in-range,
 }
 use Rattle.claims.specs.Table.{brokenFrame, unknownKind, wrongLength, recordRows, inputRows, table, rows, Ascends}
@@ -47,23 +47,8 @@ use Rattle.claims.specs.Kinds.{recordTests, record-rows, inputTests, inp
 
 record-ascends : (h : Held) (k : ℕ) (b : List ℕ) → Ascends (rank 6) (rank 12) (recordRows h k b)
 unfolding rank
-record-ascends h k b = (
-  omega arith,
-  omega arith,
-  (
-    omega arith,
-    omega arith,
-    (
-      omega arith,
-      omega arith,
-      (
-        omega arith,
-        omega arith,
-        (omega arith, omega arith, (omega arith, omega arith, (omega arith, omega arith, tt))),
-      ),
-    ),
-  ),
-)
+record-ascends h k b =
+    (omega arith, omega arith, (omega arith, omega arith, (omega arith, omega arith, (omega arith, omega arith, (omega arith, omega arith, (omega arith, omega arith, (omega arith, omega arith, (omega arith, omega arith, tt))))))))
 
 input-ascends : (h : Held) (s : List ℕ) → Ascends (rank 3) (rank 12) (inputRows h s)
 unfolding rank
@@ -75,19 +60,19 @@ input-ascends h s = go (eqb (length s) 0)
     b : List ℕ
     b = bodyOf s
 
-    go : (v : Bool) → Ascends 3 12 (cond v [] (test (brokenFrame s) 3 ∷ test (unknownKind s) 4 ∷ test (wrongLength s) 5 ∷ recordRows h k b))
+    go : (v : Bool) → Ascends (rank 3) (rank 12) (cond v [] (test (brokenFrame s) 3 ∷ test (unknownKind s) 4 ∷ test (wrongLength s) 5 ∷ recordRows h k b))
     go true = tt
     go false = (
       omega arith,
       omega arith,
-      (omega arith, omega arith, (omega arith, omega arith, wider 6 12 5 12 (recordRows h k b) (omega arith) (omega arith) (record-ascends h k b))),
+      (omega arith, omega arith, (omega arith, omega arith, wider (rank 6) (rank 12) (rank 5) (rank 12) (recordRows h k b) (omega arith) (omega arith) (record-ascends h k b))),
     )
 
 -- from the first to the last, whatever applies
 pub table-ascends : (a b : Bool) (h : Held) (s : List ℕ) → Ascends (rank 1) (rank 12) (table a b h s)
 unfolding rank
 table-ascends a b h s =
-    (omega arith, omega arith, (omega arith, omega arith, wider 3 12 2 12 (inputRows h s) (omega arith) (omega arith) (input-ascends h s)))
+    (omega arith, omega arith, (omega arith, omega arith, wider (rank 3) (rank 12) (rank 2) (rank 12) (inputRows h s) (omega arith) (omega arith) (input-ascends h s)))
 
 -- ---- what is left of the input, by its rows
 
@@ -98,10 +83,6 @@ two-three = omega arith
 three-six : rank 3 < rank 6
 unfolding rank
 three-six = omega arith
-
-twelfth : rank 12 ≡ 12
-unfolding rank
-twelfth = refl
 
 -- what the record says to whoever reads it
 abbrev pub commandOf : List ℕ → Command
@@ -265,9 +246,9 @@ refused-exactly m s n = (
 pub rows-ascend : (m : Buffers) (s : List ℕ) → Ascends (rank 1) (rank 12) (rows m s)
 rows-ascend m s = table-ascends (short m) (not (good (m .block))) (readHeld (m .block)) s
 
--- a number that is given is one of the twelve
-pub refused-twelve : (m : Buffers) (s : List ℕ) (n : ℕ) → call m s .answer ≡ Answer.Refused n → rank n ≤ 12
-refused-twelve m s n e = let w = tested-in (rank 1) (rank 12) (rows m s) (rows-ascend m s) n (refused-exactly m s n .0 e) in omega (arith, w .1, twelfth)
+-- a number that is given is in the order
+pub refused-ranked : (m : Buffers) (s : List ℕ) (n : ℕ) → call m s .answer ≡ Answer.Refused n → rank n ≤ rank 12
+refused-ranked m s n e = tested-in (rank 1) (rank 12) (rows m s) (rows-ascend m s) n (refused-exactly m s n .0 e) .1
 
 -- a refusal's number is that of a row that applies, and by rank the lowest of those
 pub refused-lowest :
@@ -277,13 +258,13 @@ refused-lowest m s n e =
     let f = refused-exactly m s n .0 e in
     (tested-applies (rows m s) n f, λ t i a. tested-lowest (rank 1) (rank 12) (rows m s) (rows-ascend m s) n f t i a)
 
--- so it is the lowest number too, since each number of the table is its own rank
+-- so a number of 01's is the lowest number that applies too: among them the order is that of the numbers
 pub refused-lowest-number :
-    (m : Buffers) (s : List ℕ) (n : ℕ) → call m s .answer ≡ Answer.Refused n → (t : Test) → t ∈ rows m s → T (t .applies) → n ≤ t .number
-refused-lowest-number m s n e t i a =
+    (m : Buffers) (s : List ℕ) (n : ℕ) → call m s .answer ≡ Answer.Refused n → n ≤ 12 → (t : Test) → t ∈ rows m s → T (t .applies) → n ≤ t .number
+refused-lowest-number m s n e o t i a =
     let w = refused-lowest m s n e in
     let own = in-range (rank 1) (rank 12) (rows m s) (rows-ascend m s) t i .1 in
-    omega (arith, w .1 t i a, rank-number n (refused-twelve m s n e), rank-number (t .number) (omega (arith, own, twelfth)))
+    rank-lower n (t .number) o (rank-number (t .number) own .0) (w .1 t i a)
 
 -- where a row applies, the call is refused
 pub applies-refused : (m : Buffers) (s : List ℕ) (t : Test) → t ∈ rows m s → T (t .applies) → (n : ℕ) × (call m s .answer ≡ Answer.Refused n)

@@ -133,6 +133,7 @@ span-exact m a A h e H t =
       by-interpretations = x .by-interpretations;
       number = x .number;
       count = x .count;
+      few = x .few;
       pieces = x .pieces;
       tables = x .tables;
     })

@@ -1,16 +1,16 @@
 -- What a record of each kind says, and 01's table of refusals, row by row.
 use mathlib.Core.Bool.{Bool, false, not, cond, _&&_, _||_}
-use mathlib.Core.List.{List, [], _∷_}
+use mathlib.Core.List.{List, [], _∷_, _++_}
 use Prim.Native.Nat.{ℕ, _-_, _≤_}
 use lib.Dec.{eqb, ltb, leb}
 use lib.ListN.{length}
 use Rattle.terms.specs.declared.Rule.{Rule}
 use Rattle.terms.specs.declared.Mark.{Mark}
 use Rattle.terms.specs.declared.Question.{Question}
-use Rattle.terms.specs.Limits.{RULES, MARKS, DEPTHS, isDepth}
+use Rattle.terms.specs.Limits.{RULES, MARKS, DEPTHS}
 use Rattle.terms.specs.Refusals.{rank, Test, test}
-use Rattle.terms.specs.Same.{sameDepth, sameMark, sameRule}
-use Rattle.terms.specs.Held.{Held, isNamed, isMarkable, isQuestion}
+use Rattle.terms.specs.Same.{sameMark, sameRule}
+use Rattle.terms.specs.Held.{Held, endsOf, isNamed, isMarkable, isPlaced, isOrdered, isQuestion}
 use Rattle.terms.specs.Lists.{some, depthCount}
 use Rattle.block.specs.Block.{readHeld, good}
 use Rattle.service.specs.Buffers.{Buffers, short}
@@ -26,6 +26,8 @@ use Rattle.records.specs.Formats.{
   viaRule,
   labelMark,
   linkMark,
+  labelStretch,
+  linkStretch,
   labelQuestion,
   linkQuestion,
   spansQuestion,
@@ -43,7 +45,7 @@ pub data Said : Type 0 where
   Takes : Mark → Said
   Asks : Question → Said
 
--- 01, Records: the table of kinds
+-- 01, Records: the table of kinds; 02, Slip 2: 13 and 14 put a stretch, 15 and 16 take one
 unfoldable pub saidBy : ℕ → List ℕ → Said
 saidBy k b =
     cond (eqb k 1) Empties
@@ -58,7 +60,11 @@ saidBy k b =
     (cond (eqb k 10) (Asks (labelQuestion b))
     (cond (eqb k 11) (Asks (linkQuestion b))
     (cond (eqb k 12) (Asks (spansQuestion b))
-    Nothing)))))))))))
+    (cond (eqb k 13) (Puts (labelStretch b))
+    (cond (eqb k 14) (Puts (linkStretch b))
+    (cond (eqb k 15) (Takes (labelStretch b))
+    (cond (eqb k 16) (Takes (linkStretch b))
+    Nothing)))))))))))))))
 
 -- what the first record of these bytes says
 abbrev pub said : List ℕ → Said
@@ -95,9 +101,13 @@ badName = onSaid false (λ ρ. not (isNamed ρ)) (λ m. not (isMarkable (m .atom
 abbrev pub badOperator : ℕ → List ℕ → Bool
 badOperator k b = (eqb k 2 || eqb k 4) && isInvalid (operatorAt b)
 
--- 8: a mark's depth out of range
+-- 8: a mark's depth out of range, either end
 abbrev pub badDepth : Said → Bool
-badDepth = onSaid false (λ ρ. false) (λ m. not (isDepth (m .depth))) (λ m. not (isDepth (m .depth))) (λ q. false)
+badDepth = onSaid false (λ ρ. false) (λ m. not (isPlaced m)) (λ m. not (isPlaced m)) (λ q. false)
+
+-- 14: top deeper than bottom
+abbrev pub badOrder : Said → Bool
+badOrder = onSaid false (λ ρ. false) (λ m. not (isOrdered m)) (λ m. not (isOrdered m)) (λ q. false)
 
 -- 9: a rule, or a mark to put, that is already held
 abbrev pub alreadyHeld : Held → Said → Bool
@@ -111,12 +121,9 @@ notHeld h = onSaid false (λ ρ. false) (λ m. false) (λ m. not (some (sameMark
 abbrev pub listFull : Held → Said → Bool
 listFull h = onSaid false (λ ρ. leb RULES (length (h .rules))) (λ m. leb MARKS (length (h .marks))) (λ m. false) (λ q. false)
 
--- 12: a mark to put at a new depth while 96 are held
+-- 12: a mark to put whose ends, with those of the held marks, are more than 96 depths
 abbrev pub depthsFull : Held → Said → Bool
-depthsFull h =
-    onSaid false (λ ρ. false)
-    (λ m. not (some (λ n. sameDepth (m .depth) (n .depth)) (h .marks)) && leb DEPTHS (depthCount (h .marks)))
-    (λ m. false) (λ q. false)
+depthsFull h = onSaid false (λ ρ. false) (λ m. ltb DEPTHS (depthCount (endsOf (h .marks ++ (m ∷ []))))) (λ m. false) (λ q. false)
 
 -- ---- the table
 
@@ -127,6 +134,7 @@ recordRows h k b =
     test (badName x) 6
     ∷ test (badOperator k b) 7
     ∷ test (badDepth x) 8
+    ∷ test (badOrder x) 14
     ∷ test (alreadyHeld h x) 9
     ∷ test (notHeld h x) 10
     ∷ test (listFull h x) 11

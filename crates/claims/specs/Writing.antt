@@ -8,7 +8,7 @@ use lib.IntN.{ℤ}
 use lib.ListN.{length}
 use mir.Syntax.{w32}
 use mir.Val.{ofZ}
-use Rattle.codec.specs.Bytes.{bytes}
+use Rattle.codec.specs.Bytes.{bytes, bytesOfSigned32}
 use Rattle.terms.specs.declared.Settings.{Settings}
 use Rattle.terms.specs.declared.Operator.{Operator}
 use Rattle.terms.specs.declared.Operator.the-variants.{Within, Between, Above, Below, Anywhere}
@@ -16,9 +16,10 @@ use Rattle.terms.specs.declared.Rule.{Rule}
 use Rattle.terms.specs.declared.Rule.the-variants.{Label, Both, Link, Via}
 use Rattle.terms.specs.declared.Atom.{Atom}
 use Rattle.terms.specs.declared.Atom.the-variants.{Has, Linked}
-use Rattle.terms.specs.Limits.{ITEMS, KINDS, LABELS, EVERY, NEVER, isItem, isKind, isLeft, isConcluded, isMarked, isDepth}
+use Rattle.terms.specs.Limits.{ITEMS, KINDS, LABELS, EVERY, NEVER, isItem, isKind, isLeft, isConcluded, isMarked}
 use Rattle.terms.specs.Operators.{codeOf, distanceOf, isOperator}
 use Rattle.terms.specs.Held.{operatorIn, isNamed, isMarkable}
+use Rattle.terms.specs.Ends.{mark-markable}
 use Rattle.terms.specs.Tests.{and-both}
 use Rattle.records.specs.declared.Command.{Command}
 use Rattle.records.specs.declared.Command.the-variants as Command
@@ -74,20 +75,23 @@ rule-small (Via r A B) t =
     let v = and-both (isLeft A) (isConcluded B) (w .1) in
     (kind-small r (w .0), (left-small A (v .0), (concluded-small B (v .1), tt)))
 
-mark-small : (x : Atom) (z : ℤ) → T (isMarkable x) → Bytes (markBody x z)
-mark-small (Has a A) z t =
-    let w = and-both (isItem a) (isMarked A) t in
-    (item-small a (w .0), (omega (arith, ltb→lt A NEVER (and-both (ltb EVERY A) (ltb A NEVER) (w .1) .1)), bytes-small 4 (ofZ w32 z)))
-mark-small (Linked a r b) z t =
-    let w = and-both (isItem a) (isKind r && isItem b) t in
+ends-small : (t d : ℤ) → Bytes (bytesOfSigned32 t ++ bytesOfSigned32 d)
+ends-small t d = append-small (bytesOfSigned32 t) (bytesOfSigned32 d) (bytes-small 4 (ofZ w32 t)) (bytes-small 4 (ofZ w32 d))
+
+mark-small : (x : Atom) (t d : ℤ) → T (isMarkable x) → Bytes (markBody x t d)
+mark-small (Has a A) t d p =
+    let w = and-both (isItem a) (isMarked A) p in
+    (item-small a (w .0), (omega (arith, ltb→lt A NEVER (and-both (ltb EVERY A) (ltb A NEVER) (w .1) .1)), ends-small t d))
+mark-small (Linked a r b) t d p =
+    let w = and-both (isItem a) (isKind r && isItem b) p in
     let v = and-both (isKind r) (isItem b) (w .1) in
-    (item-small a (w .0), (kind-small r (v .0), (item-small b (v .1), bytes-small 4 (ofZ w32 z))))
+    (item-small a (w .0), (kind-small r (v .0), (item-small b (v .1), ends-small t d)))
 
 body-small : (c : Command) → T (isChange c) → Bytes (changeBody c)
 body-small Command.Reset t = tt
 body-small (Command.Add ρ) t = rule-small ρ (and-both (isOperator (operatorIn ρ)) (isNamed ρ) t .1)
-body-small (Command.Put m) t = mark-small (m .atom) (m .depth) (and-both (isMarkable (m .atom)) (isDepth (m .depth)) t .0)
-body-small (Command.Take m) t = mark-small (m .atom) (m .depth) (and-both (isMarkable (m .atom)) (isDepth (m .depth)) t .0)
+body-small (Command.Put m) t = mark-small (m .atom) (m .top) (m .bottom) (mark-markable m t)
+body-small (Command.Take m) t = mark-small (m .atom) (m .top) (m .bottom) (mark-markable m t)
 body-small (Command.Ask q) t = absurd t
 
 pub written : (σ : Settings) (c : Command) → T (isChange c) → Written σ c

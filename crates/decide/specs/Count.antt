@@ -8,14 +8,15 @@ use native.Mathlib.Omega.{arith}
 use lib.Dec.{T}
 use lib.IntN.{ℤ}
 use lib.ListN.{length}
-use Rattle.terms.specs.declared.Mark.{Mark}
 use Rattle.terms.specs.Order.{ints}
 use Rattle.terms.specs.Limits.{CUTS}
-use Rattle.terms.specs.Held.{_∈_, Held}
+use Rattle.terms.specs.declared.Mark.{Mark}
+use Rattle.terms.specs.Held.{_∈_, Held, endsOf}
+use Rattle.terms.specs.Ends.{End-of, top-in, bottom-in, ends-only}
 use Rattle.terms.specs.Same.{sameDepth}
 use Rattle.terms.specs.SameLaws.{same-depth, depth-same}
 use Rattle.terms.specs.Lists.{some, depthCount}
-use Rattle.line.specs.Cuts.{Asc, insert, depthsOf}
+use Rattle.line.specs.Cuts.{Asc, insert, distinct}
 use Rattle.line.specs.CutLaws.{
   insert-has,
   insert-keeps,
@@ -25,23 +26,23 @@ use Rattle.line.specs.CutLaws.{
   was-there,
   one-more,
   inserted,
-  depths-only,
+  distinct-only,
   cuts-few,
 }
 use Rattle.line.specs.Intervals.{cutsOf}
 use Rattle.terms.specs.Limited.{some-in, in-some, Limited}
 
--- ---- the number of marked depths
+-- ---- the number of distinct depths
 
-pub depths-asc : (ms : List Mark) → Asc (depthsOf ms)
-depths-asc [] = tt
-depths-asc (m ∷ ms) = insert-asc (m .depth) (depthsOf ms) (depths-asc ms)
+pub distinct-asc : (ds : List ℤ) → Asc (distinct ds)
+distinct-asc [] = tt
+distinct-asc (d ∷ ds) = insert-asc d (distinct ds) (distinct-asc ds)
 
-pub depths-in : (ms : List Mark) (m : Mark) → m ∈ ms → m .depth ∈ depthsOf ms
-depths-in [] m n = absurd (List·Memᴰ·not-nil n)
-depths-in (k ∷ ms) m n =
-    ⊎-elim (λ e. subst (λ (v : Mark). v .depth ∈ insert (k .depth) (depthsOf ms)) (sym e) (insert-has (k .depth) (depthsOf ms)))
-    (λ o. insert-keeps (k .depth) (m .depth) (depthsOf ms) (depths-in ms m o)) (List·Memᴰ·cases-cons n)
+pub distinct-in : (ds : List ℤ) (x : ℤ) → x ∈ ds → x ∈ distinct ds
+distinct-in [] x n = absurd (List·Memᴰ·not-nil n)
+distinct-in (d ∷ ds) x n =
+    ⊎-elim (λ e. subst (λ v. v ∈ insert d (distinct ds)) (sym e) (insert-has d (distinct ds)))
+    (λ o. insert-keeps d x (distinct ds) (distinct-in ds x o)) (List·Memᴰ·cases-cons n)
 
 -- an ascending list within another is no longer
 pub within-length : (xs ys : List ℤ) → Asc xs → Asc ys → ((x : ℤ) → x ∈ xs → x ∈ ys) → length xs ≤ length ys
@@ -56,32 +57,42 @@ within-length (x ∷ xs) (y ∷ ys) a b f = omega (arith, within-length xs ys (a
         first z n e (inl d) = let w = a .0 z n in let q : ⊥ = omega ints in absurd q
         first z n e (inr o) = let w = a .0 z n in let v = b .0 x o in let q : ⊥ = omega ints in absurd q
 
-abbrev pub marksAt : ℤ → Mark → Bool
-marksAt d n = sameDepth d (n .depth)
-
-pub depth-some : (d : ℤ) (ms : List Mark) → d ∈ depthsOf ms → T (some (marksAt d) ms)
-depth-some d ms m = let w = depths-only ms d m in in-some (marksAt d) ms (w .0) (w .1) (subst (λ v. T (sameDepth d v)) (sym (w .2)) (depth-same d))
-
-pub some-depth : (d : ℤ) (ms : List Mark) → T (some (marksAt d) ms) → d ∈ depthsOf ms
-some-depth d ms t = let w = some-in (marksAt d) ms t in subst (λ v. v ∈ depthsOf ms) (sym (same-depth d (w .0 .depth) (w .2))) (depths-in ms (w .0) (w .1))
-
-pub depth-count : (ms : List Mark) → depthCount ms ≡ length (depthsOf ms)
+pub depth-count : (ds : List ℤ) → depthCount ds ≡ length (distinct ds)
 unfolding depthCount
 depth-count [] = refl
-depth-count (m ∷ ms) =
-    go (some (marksAt (m .depth)) ms) (λ t. some-depth (m .depth) ms t) (λ n. depth-some (m .depth) ms n)
-    (inserted (m .depth) (depthsOf ms)) (depth-count ms)
+depth-count (d ∷ ds) = go (some (sameDepth d) ds) there met (depth-count ds)
   where
-    go : (b : Bool) → (T b → m .depth ∈ depthsOf ms) → (m .depth ∈ depthsOf ms → T b) → {ys : List ℤ} →
-        Inserted (m .depth) (depthsOf ms) ys → depthCount ms ≡ length (depthsOf ms) →
-        cond b 0 1 + depthCount ms ≡ length (insert (m .depth) (depthsOf ms))
-    go true f g i e = omega (arith, ap length (insert-again (m .depth) (depthsOf ms) (depths-asc ms) (f tt)), e)
-    go false f g i e = fresh (inserted (m .depth) (depthsOf ms))
+    there : T (some (sameDepth d) ds) → d ∈ distinct ds
+    there t = let w = some-in (sameDepth d) ds t in distinct-in ds d (subst (λ v. v ∈ ds) (sym (same-depth d (w .0) (w .2))) (w .1))
+
+    met : d ∈ distinct ds → T (some (sameDepth d) ds)
+    met m = in-some (sameDepth d) ds d (distinct-only ds d m) (depth-same d)
+
+    go : (b : Bool) → (T b → d ∈ distinct ds) → (d ∈ distinct ds → T b) → depthCount ds ≡ length (distinct ds) →
+        cond b 0 1 + depthCount ds ≡ length (insert d (distinct ds))
+    go true f g e = omega (arith, ap length (insert-again d (distinct ds) (distinct-asc ds) (f tt)), e)
+    go false f g e = fresh (inserted d (distinct ds))
       where
-        fresh : {ys : List ℤ} → Inserted (m .depth) (depthsOf ms) ys → 1 + depthCount ms ≡ length ys
+        fresh : {ys : List ℤ} → Inserted d (distinct ds) ys → 1 + depthCount ds ≡ length ys
         fresh (was-there n) = absurd (g n)
         fresh (one-more d) = omega (arith, d, e)
 
+-- fewer depths have no more distinct ones among them
+pub fewer-depths : (ds es : List ℤ) → ((d : ℤ) → d ∈ ds → d ∈ es) → depthCount ds ≤ depthCount es
+fewer-depths ds es f =
+    let l = within-length (distinct ds) (distinct es) (distinct-asc ds) (distinct-asc es) (λ x m. distinct-in es x (f x (distinct-only ds x m))) in
+    omega (arith, depth-count ds, depth-count es)
+
+-- nor have fewer marks among their ends
+pub fewer-ends : (ms ns : List Mark) → ((m : Mark) → m ∈ ms → m ∈ ns) → depthCount (endsOf ms) ≤ depthCount (endsOf ns)
+fewer-ends ms ns f = fewer-depths (endsOf ms) (endsOf ns) (λ d n. go d (ends-only ms d n))
+  where
+    go : (d : ℤ) → End-of ms d → d ∈ endsOf ns
+    go d w = ⊎-elim
+        (λ e. subst (λ z. z ∈ endsOf ns) (sym e) (top-in ns (w .mark) (f (w .mark) (w .held))))
+        (λ e. subst (λ z. z ∈ endsOf ns) (sym e) (bottom-in ns (w .mark) (f (w .mark) (w .held))))
+        (w .end)
+
 -- 01, Pieces of the line: two cuts for each marked depth at most
 pub few-cuts : (h : Held) → Limited h → length (cutsOf h) ≤ CUTS
-few-cuts h w = omega (arith, cuts-few (h .marks), depth-count (h .marks), w .few-depths)
+few-cuts h w = omega (arith, cuts-few (endsOf (h .marks)), depth-count (endsOf (h .marks)), w .few-depths)

@@ -14,9 +14,10 @@ use Rattle.terms.specs.declared.Atom.the-variants.{Has}
 use Rattle.terms.specs.declared.Question.{Question}
 use Rattle.terms.specs.declared.Question.the-variants as Question
 use Rattle.terms.specs.Order.{ints}
-use Rattle.terms.specs.Tests.{and-both, or-one, true-of, of-true, false-of, neither}
-use Rattle.terms.specs.Limits.{ITEMS, NEVER, NO-TOP, NO-BOTTOM, isDepth}
-use Rattle.terms.specs.Held.{_∈_, Held, isMarkable}
+use Rattle.terms.specs.Tests.{or-one, true-of, of-true, false-of, neither}
+use Rattle.terms.specs.Limits.{ITEMS, NEVER, NO-TOP, NO-BOTTOM}
+use Rattle.terms.specs.Held.{_∈_, Held, endsOf}
+use Rattle.terms.specs.Ends.{ends-placed}
 use Rattle.terms.specs.Limited.{InRange}
 use Rattle.terms.specs.Model.{by-mark, by-every, by-rule}
 use Rattle.terms.specs.Depths.{Derived}
@@ -152,7 +153,7 @@ module _ (h : Held) (R : InRange h) where
 
   ranged : (x : ℤ) → x ∈ cutsOf h → (NO-TOP <ℤ x) × (x ≤ℤ NO-BOTTOM)
   ranged x m =
-      let w = cuts-within (h .marks) (λ k n. and-both (isMarkable (k .atom)) (isDepth (k .depth)) (R .marks k n) .1) x m in
+      let w = cuts-within (endsOf (h .marks)) (ends-placed (h .marks) (R .marks)) x m in
       (omega (ints, w .0), omega (ints, w .1))
 
   plain : (q : Question) → Satisfies h table → Says h q (verdict h (model h) q)
@@ -162,7 +163,7 @@ module _ (h : Held) (R : InRange h) where
       go true e = λ D S. true-in-all h R D S (held x i e)
       go false e = (table, s, e)
   plain (Question.Spans a A) s =
-      let L = runs-longest (cutsOf h) (cuts-asc (h .marks)) ranged (λ p. mem (fact (Has a A) p) (model h)) in
+      let L = runs-longest (cutsOf h) (cuts-asc (endsOf (h .marks))) ranged (λ p. mem (fact (Has a A) p) (model h)) in
       record {
         apart = L .apart;
         exact =
@@ -255,7 +256,7 @@ module _ (h : Held) (R : InRange h) where
 
       longest : Longest (λ i. Derived h (Has a A) i) (runs (cutsOf h) has)
       longest =
-          let L = runs-longest (cutsOf h) (cuts-asc (h .marks)) ranged has in
+          let L = runs-longest (cutsOf h) (cuts-asc (endsOf (h .marks))) ranged has in
           record { apart = L .apart; exact = λ i. (λ c. exact h (Has a A) i .0 (L .exact i .0 c), λ d. L .exact i .1 (exact h (Has a A) i .1 d)) }
 
       there : {r : Reply} → Cases (Question.Spans a A) r → r ≡ Answered (Spans rs) → (Never h → ⊥) × Longest (λ i. Derived h (Has a A) i) rs

@@ -123,7 +123,7 @@ module _ (m : Buffers) (w : Fit m) where
       rest : (t : Test) → t .number ≡ 1 → (t ≡ test (not (good (m .block))) 2) ⊎ (t ∈ inputRows (readHeld (m .block)) s) → ⊥
       rest t n (inl f) = let z : _≡_ {A = ℕ} 2 1 = sym (ap (λ (v : Test). v .number) f) ∙ n in omega arith
       rest t n (inr i) =
-          let w = in-range 2 12 (inputRows (readHeld (m .block)) s) (rows-ascend m s .2 .2) t i .0 in
+          let w = in-range (rank 2) (rank 12) (inputRows (readHeld (m .block)) s) (rows-ascend m s .2 .2) t i .0 in
           omega (arith, w, ap rank n)
 
       go :

@@ -37,10 +37,10 @@ fn slot_of(key: u64) -> usize
     key as usize % SLOTS
 }
 
-fn free_slots() -> [u8; SLOTS]
+fn free_slots() -> [u16; SLOTS]
     ensures { λ r. ⌜ Free-slots r ⌝ }
 {
-    [0u8; SLOTS]
+    [0u16; SLOTS]
 }
 
 // The key is at some place from `from` on. Its slot mostly tells; where that says the place of another key they are searched.
@@ -59,16 +59,16 @@ fn is_met(keys: &[u64], said: usize, from: usize, key: u64) -> bool
 }
 
 // 1 where no key behind the place is the same as its own, else 0. Its slot says the place then.
-fn last_of(keys: &[u64], slots: &mut [u8; SLOTS], at: usize) -> usize
+fn last_of(keys: &[u64], slots: &mut [u16; SLOTS], at: usize) -> usize
     requires { ⌜ Slots (now keys) (at + 1) (now slots) ⌝ }
     requires { ⌜ at < length (now keys) ⌝ }
-    requires { ⌜ length (now keys) ≤ 256 ⌝ }
+    requires { ⌜ length (now keys) ≤ 512 ⌝ }
     ensures { λ r. ⌜ Last-of (now (keys .entry)) at (now (slots .exit)) r ⌝ }
 {
     let key = keys[at];
     let slot = slot_of(key);
     let said = slots[slot] as usize;
-    slots[slot] = at as u8;
+    slots[slot] = at as u16;
     if is_met(keys, said, at + 1, key) {
         return 0;
     }
@@ -77,7 +77,7 @@ fn last_of(keys: &[u64], slots: &mut [u8; SLOTS], at: usize) -> usize
 
 // From the last key on, so that the slots say places behind the one in hand: never 0, which is a free slot.
 pub fn distinct_keys(keys: &[u64]) -> usize
-    requires { ⌜ length (now keys) ≤ 256 ⌝ }
+    requires { ⌜ length (now keys) ≤ 512 ⌝ }
     ensures { λ r. ⌜ r ≡ distinct (now (keys .entry)) ⌝ }
 {
     let mut slots = free_slots();
@@ -92,7 +92,7 @@ pub fn distinct_keys(keys: &[u64]) -> usize
 
 // No two keys are the same: as many are distinct as there are.
 pub fn once_keys(keys: &[u64]) -> bool
-    requires { ⌜ length (now keys) ≤ 256 ⌝ }
+    requires { ⌜ length (now keys) ≤ 512 ⌝ }
     ensures { λ r. ⌜ r ≡ once eqb (now (keys .entry)) ⌝ }
 {
     distinct_keys(keys) == keys.len()

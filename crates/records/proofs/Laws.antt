@@ -18,13 +18,15 @@ pub one-test : (p : Bool) (n : ℕ) → cond p Tested.Passed (Tested.Refused n) 
 one-test true n = refl
 one-test false n = refl
 
--- one test, then another
-pub two-tests :
-    (p q : Bool) (m n : ℕ) →
-    orElse (cond p Tested.Passed (Tested.Refused m)) (cond q Tested.Passed (Tested.Refused n)) ≡ tested (test (not p) m ∷ test (not q) n ∷ [])
-two-tests true true m n = refl
-two-tests true false m n = refl
-two-tests false q m n = refl
+-- one test, then another, then a third
+pub three-tests :
+    (p q r : Bool) (l m n : ℕ) →
+    orElse (cond p Tested.Passed (Tested.Refused l)) (orElse (cond q Tested.Passed (Tested.Refused m)) (cond r Tested.Passed (Tested.Refused n)))
+    ≡ tested (test (not p) l ∷ test (not q) m ∷ test (not r) n ∷ [])
+three-tests true true true l m n = refl
+three-tests true true false l m n = refl
+three-tests true false r l m n = refl
+three-tests false q r l m n = refl
 
 -- names, then the operator
 pub names-operator : (p : Bool) (r : OperatorRead) → orElse (tested (test (not p) 6 ∷ [])) (readTested r) ≡ tested (test (not p) 6 ∷ test (isInvalid r) 7 ∷ [])

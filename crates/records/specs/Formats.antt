@@ -53,12 +53,19 @@ linkRule b = Link (orIdentity (operatorAt b)) (getD b 5 0) (getD b 6 0)
 abbrev pub viaRule : List ℕ → Rule
 viaRule b = Via (getD b 0 0) (getD b 1 0) (getD b 2 0)
 
--- 01, Records: the marks
+-- 01, Records: the marks; 02, Slip 2: the old kinds have both ends equal
 abbrev pub labelMark : List ℕ → Mark
-labelMark b = record { atom = Has (getD b 0 0) (getD b 1 0); depth = signed32At b 2 }
+labelMark b = record { atom = Has (getD b 0 0) (getD b 1 0); top = signed32At b 2; bottom = signed32At b 2 }
 
 abbrev pub linkMark : List ℕ → Mark
-linkMark b = record { atom = Linked (getD b 0 0) (getD b 1 0) (getD b 2 0); depth = signed32At b 3 }
+linkMark b = record { atom = Linked (getD b 0 0) (getD b 1 0) (getD b 2 0); top = signed32At b 3; bottom = signed32At b 3 }
+
+-- 02, Slip 2: top and bottom after the names
+abbrev pub labelStretch : List ℕ → Mark
+labelStretch b = record { atom = Has (getD b 0 0) (getD b 1 0); top = signed32At b 2; bottom = signed32At b 6 }
+
+abbrev pub linkStretch : List ℕ → Mark
+linkStretch b = record { atom = Linked (getD b 0 0) (getD b 1 0) (getD b 2 0); top = signed32At b 3; bottom = signed32At b 7 }
 
 -- 01, Records: the questions
 abbrev pub labelQuestion : List ℕ → Question
@@ -83,7 +90,7 @@ isUnknown (Lengths.Exactly n) = false
 isUnknown (Lengths.AtLeast n) = false
 isUnknown Lengths.Unknown = true
 
--- 01, Records: the length of each kind's records
+-- 01, Records: the length of each kind's records; 02, Slip 2: the stretches
 unfoldable pub lengthsOf : ℕ → Lengths
 lengthsOf k =
     cond (eqb k 1) (Lengths.Exactly 2)
@@ -98,7 +105,11 @@ lengthsOf k =
     (cond (eqb k 10) (Lengths.Exactly 12)
     (cond (eqb k 11) (Lengths.Exactly 13)
     (cond (eqb k 12) (Lengths.Exactly 4)
-    Lengths.Unknown)))))))))))
+    (cond (eqb k 13) (Lengths.Exactly 12)
+    (cond (eqb k 14) (Lengths.Exactly 13)
+    (cond (eqb k 15) (Lengths.Exactly 12)
+    (cond (eqb k 16) (Lengths.Exactly 13)
+    Lengths.Unknown)))))))))))))))
 
 -- 01, Where a record is turned away: bytes used are 0 for what is judged before 3, all that is left for 3, else length + 2
 abbrev pub usedFor : ℕ → List ℕ → ℕ

@@ -25,10 +25,10 @@ use Rattle.terms.specs.declared.Question.{Question}
 use Rattle.terms.specs.declared.Settings.{Settings}
 use Rattle.terms.specs.declared.Tested.{Tested}
 use Rattle.terms.specs.declared.Tested.the-variants as Tested
-use Rattle.terms.specs.Limits.{isDepth}
 use Rattle.terms.specs.Operators.{operatorOf, codeOf, distanceOf, isOperator, orIdentity}
 use Rattle.terms.specs.Readings.{ProperRead, read-proper, operator-read, distance-fits, depth-fits}
-use Rattle.terms.specs.Held.{isNamed, isRule, isMark, isMarkable, isQuestion}
+use Rattle.terms.specs.Held.{isNamed, isRule, isMark, isMarkable, isPlaced, isOrdered, isQuestion}
+use Rattle.terms.specs.Ends.{top-placed, bottom-placed}
 use Rattle.terms.specs.Same.{kindOf}
 use Rattle.terms.specs.Refusals.{test, tested}
 use Rattle.terms.specs.Tests.{and-both, both-and}
@@ -66,6 +66,8 @@ use Rattle.records.specs.Formats.{
   viaRule,
   labelMark,
   linkMark,
+  labelStretch,
+  linkStretch,
   labelQuestion,
   linkQuestion,
   spansQuestion,
@@ -75,7 +77,7 @@ use Rattle.records.specs.Formats.{
 }
 use Rattle.records.specs.Frame.{recordBytes, parse-record}
 
--- a command whose names, operator and depth are in range; a question's depth may be any
+-- a command whose names, operator and ends are in range; a question's depth may be any
 abbrev pub Proper : Command → Bool
 Proper Command.Reset = true
 Proper (Command.Add ρ) = isRule ρ
@@ -125,15 +127,18 @@ ProperParsed Parsed.Nothing = Unit {0}
 ProperParsed (Parsed.Refused n u) = Unit {0}
 ProperParsed (Parsed.Record c b u) = T (Proper c)
 
--- what passes one test, and two
+-- what passes one test, and three
 one-test : (p : Bool) (n : ℕ) (c : Command) → (T p → T (Proper c)) → ProperDecoded (decodedAs (tested (test (not p) n ∷ [])) c)
 one-test true n c h = h tt
 one-test false n c h = tt
 
-two-tests : (p q : Bool) (m n : ℕ) (c : Command) → (T (p && q) → T (Proper c)) → ProperDecoded (decodedAs (tested (test (not p) m ∷ test (not q) n ∷ [])) c)
-two-tests true true m n c h = h tt
-two-tests true false m n c h = tt
-two-tests false q m n c h = tt
+three-tests :
+    (p q r : Bool) (l m n : ℕ) (c : Command) → (T (p && (q && r)) → T (Proper c)) →
+    ProperDecoded (decodedAs (tested (test (not p) l ∷ test (not q) m ∷ test (not r) n ∷ [])) c)
+three-tests true true true l m n c h = h tt
+three-tests true true false l m n c h = tt
+three-tests true false r l m n c h = tt
+three-tests false q r l m n c h = tt
 
 -- an operator that was read is in range
 operator-test :
@@ -144,7 +149,7 @@ operator-test true Invalid c g h = tt
 operator-test false r c g h = tt
 
 mark-test : (m : Mark) (c : Command) → (T (isMark m) → T (Proper c)) → (σ : Settings) → ProperDecoded (decodedAs (tested (markTests σ m)) c)
-mark-test m c h σ = two-tests (isMarkable (m .atom)) (isDepth (m .depth)) 6 8 c h
+mark-test m c h σ = three-tests (isMarkable (m .atom)) (isPlaced m) (isOrdered m) 6 8 14 c h
 
 question-test : (q : Question) (σ : Settings) → ProperDecoded (decodedAs (tested (questionTests σ q)) (Command.Ask q))
 question-test q σ = one-test (isQuestion q) 6 (Command.Ask q) (λ t. t)
@@ -180,7 +185,19 @@ body-proper σ k b =
                         question-test (labelQuestion b) σ,
                         (
                           question-test (linkQuestion b) σ,
-                          (question-test (spansQuestion b) σ, tt),
+                          (
+                            question-test (spansQuestion b) σ,
+                            (
+                              mark-test (labelStretch b) (Command.Put (labelStretch b)) (λ t. t) σ,
+                              (
+                                mark-test (linkStretch b) (Command.Put (linkStretch b)) (λ t. t) σ,
+                                (
+                                  mark-test (labelStretch b) (Command.Take (labelStretch b)) (λ t. t) σ,
+                                  (mark-test (linkStretch b) (Command.Take (linkStretch b)) (λ t. t) σ, tt),
+                                ),
+                              ),
+                            ),
+                          ),
                         ),
                       ),
                     ),
@@ -228,20 +245,20 @@ ruleBody (Both A B C) = A ∷ B ∷ C ∷ []
 ruleBody (Link o r s) = operatorBytes o ++ (r ∷ s ∷ [])
 ruleBody (Via r A B) = r ∷ A ∷ B ∷ []
 
--- 01, Records: the kind of a mark that is put
+-- 02, Slip 2: the kind of a mark that is put; a stretch may have both ends equal
 abbrev pub putKind : Atom → ℕ
-putKind (Has a A) = 6
-putKind (Linked a r b) = 7
+putKind (Has a A) = 13
+putKind (Linked a r b) = 14
 
 -- and of one that is taken
 abbrev pub takeKind : Atom → ℕ
-takeKind (Has a A) = 8
-takeKind (Linked a r b) = 9
+takeKind (Has a A) = 15
+takeKind (Linked a r b) = 16
 
--- 01, Records: the body of a mark
-abbrev pub markBody : Atom → ℤ → List ℕ
-markBody (Has a A) z = a ∷ A ∷ bytesOfSigned32 z
-markBody (Linked a r b) z = a ∷ r ∷ b ∷ bytesOfSigned32 z
+-- 02, Slip 2: the body of a mark: names, top, bottom
+abbrev pub markBody : Atom → ℤ → ℤ → List ℕ
+markBody (Has a A) t d = a ∷ A ∷ (bytesOfSigned32 t ++ bytesOfSigned32 d)
+markBody (Linked a r b) t d = a ∷ r ∷ b ∷ (bytesOfSigned32 t ++ bytesOfSigned32 d)
 
 -- the kind and the body of a change; a question has none here
 abbrev pub changeKind : Command → ℕ
@@ -254,8 +271,8 @@ changeKind (Command.Ask q) = 0
 abbrev pub changeBody : Command → List ℕ
 changeBody Command.Reset = []
 changeBody (Command.Add ρ) = ruleBody ρ
-changeBody (Command.Put m) = markBody (m .atom) (m .depth)
-changeBody (Command.Take m) = markBody (m .atom) (m .depth)
+changeBody (Command.Put m) = markBody (m .atom) (m .top) (m .bottom)
+changeBody (Command.Take m) = markBody (m .atom) (m .top) (m .bottom)
 changeBody (Command.Ask q) = []
 
 -- a change as a record
@@ -267,10 +284,13 @@ named-passes : (p : Bool) (c : Command) → T p → decodedAs (tested (test (not
 named-passes true c t = refl
 named-passes false c t = absurd t
 
-mark-passes : (p q : Bool) (c : Command) → T (p && q) → decodedAs (tested (test (not p) 6 ∷ test (not q) 8 ∷ [])) c ≡ Decoded.Command c
-mark-passes true true c t = refl
-mark-passes true false c t = absurd t
-mark-passes false q c t = absurd t
+mark-passes :
+    (p q r : Bool) (c : Command) → T (p && (q && r)) →
+    decodedAs (tested (test (not p) 6 ∷ test (not q) 8 ∷ test (not r) 14 ∷ [])) c ≡ Decoded.Command c
+mark-passes true true true c t = refl
+mark-passes true true false c t = absurd t
+mark-passes true false r c t = absurd t
+mark-passes false q r c t = absurd t
 
 operator-passes :
     (p : Bool) (r : OperatorRead) (o : Operator) (k : Operator → Command) → T p → r ≡ Valid o →
@@ -286,19 +306,19 @@ operator-in o x y t = ap (operatorOf (codeOf o)) (little-bytes 4 (distanceOf o) 
 depth-read : (z : ℤ) → SFits w32 z → toZ w32 (little 4 (bytesOfSigned32 z) 0) ≡ z
 depth-read z f = ap (toZ w32) (little-bytes 4 (ofZ w32 z) (ofZ-fits w32 z f .fits)) ∙ toZ-ofZ w32 z f
 
--- a mark of its two parts
-abbrev pub markWith : Atom → ℤ → Mark
-markWith x z = record { atom = x; depth = z }
+-- a mark of its three parts
+abbrev pub markWith : Atom → ℤ → ℤ → Mark
+markWith x t d = record { atom = x; top = t; bottom = d }
 
 -- the mark that a body of such an atom is read as
 abbrev markIn : Atom → List ℕ → Mark
-markIn (Has a A) b = labelMark b
-markIn (Linked a r c) b = linkMark b
+markIn (Has a A) b = labelStretch b
+markIn (Linked a r c) b = linkStretch b
 
-mark-in : (x : Atom) (z : ℤ) → SFits w32 z → markIn x (markBody x z) ≡ markWith x z
+mark-in : (x : Atom) (t d : ℤ) → SFits w32 t → SFits w32 d → markIn x (markBody x t d) ≡ markWith x t d
 unfolding little bytes
-mark-in (Has a A) z f = ap (markWith (Has a A)) (depth-read z f)
-mark-in (Linked a r b) z f = ap (markWith (Linked a r b)) (depth-read z f)
+mark-in (Has a A) t d f g = λ i. markWith (Has a A) (depth-read t f i) (depth-read d g i)
+mark-in (Linked a r b) t d f g = λ i. markWith (Linked a r b) (depth-read t f i) (depth-read d g i)
 
 module _ (σ : Settings) where
   rule-decodes : (ρ : Rule) → T (isRule ρ) → decodeBody σ (kindOf ρ) (ruleBody ρ) ≡ Decoded.Command (Command.Add ρ)
@@ -316,29 +336,31 @@ module _ (σ : Settings) where
 
   -- a mark under a kind whose body is a mark, and what the command does with it
   mark-decodes :
-      (k : Mark → Command) (n : ℕ) (x : Atom) (z : ℤ) → let b = markBody x z in
-      decodeBody σ n b ≡ decodedAs (tested (markTests σ (markIn x b))) (k (markIn x b)) → T (isMark (markWith x z)) →
-      decodeBody σ n b ≡ Decoded.Command (k (markWith x z))
-  mark-decodes k n x z e t =
-      let f : SFits w32 z = depth-fits z (and-both (isMarkable x) (isDepth z) t .1) in
-      e ∙ ap (λ (m : Mark). decodedAs (tested (markTests σ m)) (k m)) (mark-in x z f) ∙ mark-passes (isMarkable x) (isDepth z) (k (markWith x z)) t
+      (k : Mark → Command) (n : ℕ) (x : Atom) (t d : ℤ) → let b = markBody x t d in
+      decodeBody σ n b ≡ decodedAs (tested (markTests σ (markIn x b))) (k (markIn x b)) → T (isMark (markWith x t d)) →
+      decodeBody σ n b ≡ Decoded.Command (k (markWith x t d))
+  mark-decodes k n x t d e h =
+      let m : Mark = markWith x t d in
+      e
+      ∙ ap (λ (y : Mark). decodedAs (tested (markTests σ y)) (k y)) (mark-in x t d (depth-fits t (top-placed m h)) (depth-fits d (bottom-placed m h)))
+      ∙ mark-passes (isMarkable x) (isPlaced m) (isOrdered m) (k m) h
 
-  put-decodes : (x : Atom) (z : ℤ) → T (isMark (markWith x z)) → decodeBody σ (putKind x) (markBody x z) ≡ Decoded.Command (Command.Put (markWith x z))
+  put-decodes : (x : Atom) (t d : ℤ) → let m = markWith x t d in T (isMark m) → decodeBody σ (putKind x) (markBody x t d) ≡ Decoded.Command (Command.Put m)
   unfolding bodyTests commandIn
-  put-decodes (Has a A) z t = mark-decodes (λ (m : Mark). Command.Put m) 6 (Has a A) z refl t
-  put-decodes (Linked a r b) z t = mark-decodes (λ (m : Mark). Command.Put m) 7 (Linked a r b) z refl t
+  put-decodes (Has a A) t d h = mark-decodes (λ (m : Mark). Command.Put m) 13 (Has a A) t d refl h
+  put-decodes (Linked a r b) t d h = mark-decodes (λ (m : Mark). Command.Put m) 14 (Linked a r b) t d refl h
 
-  take-decodes : (x : Atom) (z : ℤ) → T (isMark (markWith x z)) → decodeBody σ (takeKind x) (markBody x z) ≡ Decoded.Command (Command.Take (markWith x z))
+  take-decodes : (x : Atom) (t d : ℤ) → let m = markWith x t d in T (isMark m) → decodeBody σ (takeKind x) (markBody x t d) ≡ Decoded.Command (Command.Take m)
   unfolding bodyTests commandIn
-  take-decodes (Has a A) z t = mark-decodes (λ (m : Mark). Command.Take m) 8 (Has a A) z refl t
-  take-decodes (Linked a r b) z t = mark-decodes (λ (m : Mark). Command.Take m) 9 (Linked a r b) z refl t
+  take-decodes (Has a A) t d h = mark-decodes (λ (m : Mark). Command.Take m) 15 (Has a A) t d refl h
+  take-decodes (Linked a r b) t d h = mark-decodes (λ (m : Mark). Command.Take m) 16 (Linked a r b) t d refl h
 
   change-decodes : (c : Command) → T (isChange c) → decodeBody σ (changeKind c) (changeBody c) ≡ Decoded.Command c
   unfolding bodyTests commandIn
   change-decodes Command.Reset t = refl
   change-decodes (Command.Add ρ) t = rule-decodes ρ t
-  change-decodes (Command.Put m) t = put-decodes (m .atom) (m .depth) t
-  change-decodes (Command.Take m) t = take-decodes (m .atom) (m .depth) t
+  change-decodes (Command.Put m) t = put-decodes (m .atom) (m .top) (m .bottom) t
+  change-decodes (Command.Take m) t = take-decodes (m .atom) (m .top) (m .bottom) t
   change-decodes (Command.Ask q) t = absurd t
 
 -- a body that has a length of its kind, below the largest
@@ -354,22 +376,22 @@ fitting-rule (Both A B C) = record { allowed = tt; small = omega arith; short = 
 fitting-rule (Link o r s) = record { allowed = tt; small = omega arith; short = omega arith }
 fitting-rule (Via r A B) = record { allowed = tt; small = omega arith; short = omega arith }
 
-fitting-put : (x : Atom) (z : ℤ) → Fitting (putKind x) (markBody x z)
+fitting-put : (x : Atom) (t d : ℤ) → Fitting (putKind x) (markBody x t d)
 unfolding lengthsOf bytes
-fitting-put (Has a A) z = record { allowed = tt; small = omega arith; short = omega arith }
-fitting-put (Linked a r b) z = record { allowed = tt; small = omega arith; short = omega arith }
+fitting-put (Has a A) t d = record { allowed = tt; small = omega arith; short = omega arith }
+fitting-put (Linked a r b) t d = record { allowed = tt; small = omega arith; short = omega arith }
 
-fitting-take : (x : Atom) (z : ℤ) → Fitting (takeKind x) (markBody x z)
+fitting-take : (x : Atom) (t d : ℤ) → Fitting (takeKind x) (markBody x t d)
 unfolding lengthsOf bytes
-fitting-take (Has a A) z = record { allowed = tt; small = omega arith; short = omega arith }
-fitting-take (Linked a r b) z = record { allowed = tt; small = omega arith; short = omega arith }
+fitting-take (Has a A) t d = record { allowed = tt; small = omega arith; short = omega arith }
+fitting-take (Linked a r b) t d = record { allowed = tt; small = omega arith; short = omega arith }
 
 fitting : (c : Command) → T (isChange c) → Fitting (changeKind c) (changeBody c)
 unfolding lengthsOf
 fitting Command.Reset t = record { allowed = tt; small = omega arith; short = omega arith }
 fitting (Command.Add ρ) t = fitting-rule ρ
-fitting (Command.Put m) t = fitting-put (m .atom) (m .depth)
-fitting (Command.Take m) t = fitting-take (m .atom) (m .depth)
+fitting (Command.Put m) t = fitting-put (m .atom) (m .top) (m .bottom)
+fitting (Command.Take m) t = fitting-take (m .atom) (m .top) (m .bottom)
 fitting (Command.Ask q) t = absurd t
 
 -- a change in range, written, reads back, and all of its bytes are used

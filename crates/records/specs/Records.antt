@@ -10,8 +10,7 @@ use Rattle.terms.specs.declared.Mark.{Mark}
 use Rattle.terms.specs.declared.Question.{Question}
 use Rattle.terms.specs.declared.Settings.{Settings}
 use Rattle.terms.specs.declared.Tested.{Tested}
-use Rattle.terms.specs.Limits.{isDepth}
-use Rattle.terms.specs.Held.{isNamed, isMarkable, isQuestion}
+use Rattle.terms.specs.Held.{isNamed, isMarkable, isPlaced, isOrdered, isQuestion}
 use Rattle.terms.specs.Refusals.{Test, test, tested}
 use Rattle.terms.specs.Otherwise.{onTested}
 use Rattle.records.specs.declared.Command.{Command}
@@ -33,6 +32,8 @@ use Rattle.records.specs.Formats.{
   viaRule,
   labelMark,
   linkMark,
+  labelStretch,
+  linkStretch,
   labelQuestion,
   linkQuestion,
   spansQuestion,
@@ -54,7 +55,7 @@ abbrev pub operatorTests : Settings → OperatorRead → Rule → List Test
 operatorTests σ r ρ = test (not (isNamed ρ)) 6 ∷ test (isInvalid r) 7 ∷ []
 
 abbrev pub markTests : Settings → Mark → List Test
-markTests σ m = test (not (isMarkable (m .atom))) 6 ∷ test (not (isDepth (m .depth))) 8 ∷ []
+markTests σ m = test (not (isMarkable (m .atom))) 6 ∷ test (not (isPlaced m)) 8 ∷ test (not (isOrdered m)) 14 ∷ []
 
 abbrev pub questionTests : Settings → Question → List Test
 questionTests σ q = test (not (isQuestion q)) 6 ∷ []
@@ -70,7 +71,7 @@ pub record Kind : Type 0 where
 abbrev pub kind : ℕ → (Settings → List ℕ → List Test) → (List ℕ → Command) → Kind
 kind n t c = record { number = n; tests = t; command = c }
 
--- 01, Records: the table
+-- 01, Records: the table; 02, Slip 2: the stretches
 abbrev pub kinds : List Kind
 kinds =
     kind 1 (λ σ b. []) (λ b. Command.Reset)
@@ -85,6 +86,10 @@ kinds =
     ∷ kind 10 (λ σ b. questionTests σ (labelQuestion b)) (λ b. Command.Ask (labelQuestion b))
     ∷ kind 11 (λ σ b. questionTests σ (linkQuestion b)) (λ b. Command.Ask (linkQuestion b))
     ∷ kind 12 (λ σ b. questionTests σ (spansQuestion b)) (λ b. Command.Ask (spansQuestion b))
+    ∷ kind 13 (λ σ b. markTests σ (labelStretch b)) (λ b. Command.Put (labelStretch b))
+    ∷ kind 14 (λ σ b. markTests σ (linkStretch b)) (λ b. Command.Put (linkStretch b))
+    ∷ kind 15 (λ σ b. markTests σ (labelStretch b)) (λ b. Command.Take (labelStretch b))
+    ∷ kind 16 (λ σ b. markTests σ (linkStretch b)) (λ b. Command.Take (linkStretch b))
     ∷ []
 
 -- what f says of the row of a kind; d for a kind that the table has not, which the frame refuses before its body is looked at

@@ -18,6 +18,8 @@ ghost use Rattle.records.specs.Formats.{
   viaRule,
   labelMark,
   linkMark,
+  labelStretch,
+  linkStretch,
   labelQuestion,
   linkQuestion,
   spansQuestion,
@@ -79,6 +81,10 @@ fn lengths_of(kind: u16) -> Lengths
         10 => Lengths::Exactly(12),
         11 => Lengths::Exactly(13),
         12 => Lengths::Exactly(4),
+        13 => Lengths::Exactly(12),
+        14 => Lengths::Exactly(13),
+        15 => Lengths::Exactly(12),
+        16 => Lengths::Exactly(13),
         _ => Lengths::Unknown,
     }
 }
@@ -119,9 +125,10 @@ fn mark_tested(settings: Settings, mark: Mark) -> Tested
     ensures { λ r. ⌜ r ≡ testedBy (markTests settings mark) ⌝ }
 {
     let atom = mark.atom;
-    let depth = mark.depth;
     let names = Tested::unless(atom.is_markable(), 6);
-    names.or(Tested::unless(terms::is_depth(depth), 8))
+    let places = Tested::unless(mark.is_placed(), 8);
+    let order = Tested::unless(mark.is_ordered(), 14);
+    names.or(places.or(order))
 }
 
 fn put(settings: Settings, mark: Mark) -> Decoded
@@ -180,13 +187,16 @@ fn via_rule(settings: Settings, body: &[u8]) -> Decoded
     add(settings, rule, Tested::Passed)
 }
 
+// A mark of the kinds with one depth: it is both ends.
 fn label_mark(body: &[u8]) -> Mark
     requires { ⌜ length (now body) ≡ 6 ⌝ }
     ensures { λ r. ⌜ r ≡ labelMark (now (body .entry)) ⌝ }
 {
+    let depth = codec::i32_at(body, 2);
     Mark {
         atom: Atom::Has(body[0], body[1]),
-        depth: codec::i32_at(body, 2),
+        top: depth,
+        bottom: depth,
     }
 }
 
@@ -194,38 +204,35 @@ fn link_mark(body: &[u8]) -> Mark
     requires { ⌜ length (now body) ≡ 7 ⌝ }
     ensures { λ r. ⌜ r ≡ linkMark (now (body .entry)) ⌝ }
 {
+    let depth = codec::i32_at(body, 3);
     Mark {
         atom: Atom::Linked(body[0], body[1], body[2]),
-        depth: codec::i32_at(body, 3),
+        top: depth,
+        bottom: depth,
     }
 }
 
-fn put_label(settings: Settings, body: &[u8]) -> Decoded
-    requires { ⌜ length (now body) ≡ 6 ⌝ }
-    ensures { λ r. ⌜ r ≡ asPut settings (labelMark (now (body .entry))) ⌝ }
+// A mark of the kinds with two depths.
+fn label_stretch(body: &[u8]) -> Mark
+    requires { ⌜ length (now body) ≡ 10 ⌝ }
+    ensures { λ r. ⌜ r ≡ labelStretch (now (body .entry)) ⌝ }
 {
-    put(settings, label_mark(body))
+    Mark {
+        atom: Atom::Has(body[0], body[1]),
+        top: codec::i32_at(body, 2),
+        bottom: codec::i32_at(body, 6),
+    }
 }
 
-fn put_link(settings: Settings, body: &[u8]) -> Decoded
-    requires { ⌜ length (now body) ≡ 7 ⌝ }
-    ensures { λ r. ⌜ r ≡ asPut settings (linkMark (now (body .entry))) ⌝ }
+fn link_stretch(body: &[u8]) -> Mark
+    requires { ⌜ length (now body) ≡ 11 ⌝ }
+    ensures { λ r. ⌜ r ≡ linkStretch (now (body .entry)) ⌝ }
 {
-    put(settings, link_mark(body))
-}
-
-fn take_label(settings: Settings, body: &[u8]) -> Decoded
-    requires { ⌜ length (now body) ≡ 6 ⌝ }
-    ensures { λ r. ⌜ r ≡ asTake settings (labelMark (now (body .entry))) ⌝ }
-{
-    take(settings, label_mark(body))
-}
-
-fn take_link(settings: Settings, body: &[u8]) -> Decoded
-    requires { ⌜ length (now body) ≡ 7 ⌝ }
-    ensures { λ r. ⌜ r ≡ asTake settings (linkMark (now (body .entry))) ⌝ }
-{
-    take(settings, link_mark(body))
+    Mark {
+        atom: Atom::Linked(body[0], body[1], body[2]),
+        top: codec::i32_at(body, 3),
+        bottom: codec::i32_at(body, 7),
+    }
 }
 
 fn ask_label(settings: Settings, body: &[u8]) -> Decoded
@@ -262,13 +269,17 @@ pub fn decode_body(settings: Settings, kind: u16, body: &[u8]) -> Decoded
         3 => both_rule(settings, body),
         4 => link_rule(settings, body),
         5 => via_rule(settings, body),
-        6 => put_label(settings, body),
-        7 => put_link(settings, body),
-        8 => take_label(settings, body),
-        9 => take_link(settings, body),
+        6 => put(settings, label_mark(body)),
+        7 => put(settings, link_mark(body)),
+        8 => take(settings, label_mark(body)),
+        9 => take(settings, link_mark(body)),
         10 => ask_label(settings, body),
         11 => ask_link(settings, body),
         12 => ask_spans(settings, body),
+        13 => put(settings, label_stretch(body)),
+        14 => put(settings, link_stretch(body)),
+        15 => take(settings, label_stretch(body)),
+        16 => take(settings, link_stretch(body)),
         _ => Decoded::Refused(4),
     }
 }

@@ -1,10 +1,13 @@
 -- Two have one key where they are the same. Assumes nothing.
 use mathlib.Core.Path.{_≡_, sym, ap, _∙_, subst}
-use Prim.Native.Nat.{ℕ, _+_, _*_, _<_}
+use mathlib.Core.Bool.{Bool}
+use Prim.Native.Nat.{ℕ, _+_, _*_, _%_, _≤_, _<_}
+use native.Mathlib.Nat.{add-left-cancel, eq-of-mul-eq-mul-left, mod-eq-of-lt, add-mul-mod-self-left}
 use native.Mathlib.Omega.{arith}
 use borrow.Author.Tests.{eq-eqb}
-use lib.Dec.{T, eqb, eqb→eq}
-use lib.IntN.{ℤ}
+use lib.Dec.{T, eqb, eqb→eq, leb→le}
+use lib.IntN.{ℤ, pos, negsuc}
+use lib.Signed.{leZ}
 use mir.Syntax.{w32}
 use mir.Val.{SFits, toZ, ofZ}
 use mir.ValLaws.{toZ-ofZ}
@@ -16,15 +19,26 @@ use Rattle.terms.specs.declared.Atom.{Atom}
 use Rattle.terms.specs.declared.Atom.the-variants.{Has, Linked}
 use Rattle.terms.specs.declared.Mark.{Mark}
 use Rattle.terms.specs.Operators.{codeOf, distanceOf}
-use Rattle.terms.specs.Tests.{both-and, of-true}
-use Rattle.terms.specs.Same.{sameRule, sameOperator, sameMark, sameAtom, sameDepth, kindOf, firstOf, secondOf, thirdOf}
-use Rattle.terms.specs.Held.{operatorIn}
-use Rattle.terms.specs.SameLaws.{same-rule, same-mark, atom-same, same-depth, depth-same}
-use Rattle.scans.specs.Keys.{packedFields, tagOf, ruleKey, markKey, depthKey, atomKey, Bytes, ByteRule, ByteAtom, MarkFits, DepthFits}
+use Rattle.terms.specs.Tests.{and-both, both-and, of-true}
+use Rattle.terms.specs.Limits.{SHALLOWEST, DEEPEST, isDepth}
+use Rattle.terms.specs.Same.{sameRule, sameOperator, sameMark, sameDepth, kindOf, firstOf, secondOf, thirdOf}
+use Rattle.terms.specs.Held.{operatorIn, isMarkable}
+use Rattle.terms.specs.Ends.{mark-markable, top-placed, bottom-placed}
+use Rattle.terms.specs.Names.{label-names, link-names}
+use Rattle.terms.specs.Entailed.{markable-statement}
+use Rattle.terms.specs.SameLaws.{same-rule, same-mark, mark-same, same-depth, depth-same}
+use Rattle.scans.specs.Keys.{packedFields, tagOf, ruleKey, depthKey, ATOM-ROOM, END-ROOM, atomNumber, endNumber, markKey}
+use Rattle.scans.specs.Keys.{Bytes, ByteRule, MarkFits, DepthFits}
 use Rattle.keys.proofs.Scan.{test-eq}
 
 equal : (a b : ℕ) → a ≡ b → T (eqb a b)
 equal a b e = of-true (eq-eqb a b e)
+
+-- a key is one thing's alone: then equal keys say what the test of two things says
+told : {X : Type 0} (key : X → ℕ) (alike : X → X → Bool) → ((x y : X) → T (alike x y) → x ≡ y) → (x y : X) → (key x ≡ key y → T (alike x y)) →
+    eqb (key x) (key y) ≡ alike x y
+told key alike same x y back =
+    test-eq (eqb (key x) (key y)) (alike x y) (λ t. back (eqb→eq (key x) (key y) t)) (λ t. equal (key x) (key y) (ap key (same x y t)))
 
 pub code-small : (o : Operator) → codeOf o < 8
 code-small (Within n) = omega arith
@@ -40,8 +54,11 @@ kind-small (Link o r s) = omega arith
 kind-small (Via r A B) = omega arith
 
 -- the lowest digit and the rest
-digit : (a b x y : ℕ) → a < 256 → b < 256 → a + 256 * x ≡ b + 256 * y → (a ≡ b) × (x ≡ y)
-digit a b x y h k e = omega arith
+digit : (n a b x y : ℕ) → a < n → b < n → a + n * x ≡ b + n * y → (a ≡ b) × (x ≡ y)
+digit n a b x y h k e =
+    let f : a ≡ b = sym (mod-eq-of-lt h) ∙ sym (add-mul-mod-self-left a n x) ∙ ap (λ (m : ℕ). m % n) e ∙ add-mul-mod-self-left b n y ∙ mod-eq-of-lt k in
+    let g : n * x ≡ n * y = add-left-cancel b (rw f at e) in
+    (f, eq-of-mul-eq-mul-left n (omega arith) x y g)
 
 -- the fields of two equal keys
 record Fields (t a b c n t′ a′ b′ c′ n′ : ℕ) : Type 0 where
@@ -55,10 +72,10 @@ fields : (t a b c n t′ a′ b′ c′ n′ : ℕ) → t < 256 → t′ < 256 �
     Fields t a b c n t′ a′ b′ c′ n′
 unfolding packedFields
 fields t a b c n t′ a′ b′ c′ n′ h h′ w w′ e =
-    let d = digit t t′ (a + 256 * (b + 256 * (c + 256 * n))) (a′ + 256 * (b′ + 256 * (c′ + 256 * n′))) h h′ e in
-    let f = digit a a′ (b + 256 * (c + 256 * n)) (b′ + 256 * (c′ + 256 * n′)) (w .first) (w′ .first) (d .1) in
-    let g = digit b b′ (c + 256 * n) (c′ + 256 * n′) (w .second) (w′ .second) (f .1) in
-    let k = digit c c′ n n′ (w .third) (w′ .third) (g .1) in
+    let d = digit 256 t t′ (a + 256 * (b + 256 * (c + 256 * n))) (a′ + 256 * (b′ + 256 * (c′ + 256 * n′))) h h′ e in
+    let f = digit 256 a a′ (b + 256 * (c + 256 * n)) (b′ + 256 * (c′ + 256 * n′)) (w .first) (w′ .first) (d .1) in
+    let g = digit 256 b b′ (c + 256 * n) (c′ + 256 * n′) (w .second) (w′ .second) (f .1) in
+    let k = digit 256 c c′ n n′ (w .third) (w′ .third) (g .1) in
     record { tag = d .0; first = f .0; second = g .0; third = k .0; number = k .1 }
 
 rule-back : (ρ σ : Rule) → ByteRule ρ → ByteRule σ → ruleKey ρ ≡ ruleKey σ → T (sameRule ρ σ)
@@ -80,45 +97,71 @@ rule-back ρ σ p q e =
     (equal (thirdOf ρ) (thirdOf σ) (w .third)))))
 
 pub rule-exact : (ρ σ : Rule) → ByteRule ρ → ByteRule σ → eqb (ruleKey ρ) (ruleKey σ) ≡ sameRule ρ σ
-rule-exact ρ σ p q =
-    test-eq (eqb (ruleKey ρ) (ruleKey σ)) (sameRule ρ σ)
-    (λ t. rule-back ρ σ p q (eqb→eq (ruleKey ρ) (ruleKey σ) t))
-    (λ t. equal (ruleKey ρ) (ruleKey σ) (ap ruleKey (same-rule ρ σ t)))
+rule-exact ρ σ p q = told ruleKey sameRule same-rule ρ σ (rule-back ρ σ p q)
 
 -- a depth is told by its bits
 bits-back : (i j : ℤ) → SFits w32 i → SFits w32 j → ofZ w32 i ≡ ofZ w32 j → i ≡ j
 bits-back i j p q e = sym (toZ-ofZ w32 i p) ∙ ap (λ (n : ℕ). toZ w32 n) e ∙ toZ-ofZ w32 j q
 
-same-depths : (i j : ℤ) → i ≡ j → T (sameDepth i j)
-same-depths i j e = subst (λ (k : ℤ). T (sameDepth i k)) e (depth-same i)
+pub depth-exact : (i j : ℤ) → DepthFits i → DepthFits j → eqb (depthKey i) (depthKey j) ≡ sameDepth i j
+depth-exact i j p q =
+    told depthKey sameDepth same-depth i j (λ e. subst (λ (k : ℤ). T (sameDepth i k)) (bits-back i j p q e) (depth-same i))
 
-pub depth-exact : (m n : Mark) → DepthFits m → DepthFits n → eqb (depthKey m) (depthKey n) ≡ sameDepth (m .depth) (n .depth)
-depth-exact m n p q =
-    test-eq (eqb (depthKey m) (depthKey n)) (sameDepth (m .depth) (n .depth))
-    (λ t. same-depths (m .depth) (n .depth) (bits-back (m .depth) (n .depth) (p .depth) (q .depth) (eqb→eq (depthKey m) (depthKey n) t)))
-    (λ t. equal (depthKey m) (depthKey n) (ap (ofZ w32) (same-depth (m .depth) (n .depth) t)))
+-- a depth where marks lie is told by its lowest bits
+pos-most : (n : ℕ) → T (isDepth (pos n)) → n ≤ 200_000
+pos-most n t = leb→le n 200_000 (and-both (leZ SHALLOWEST (pos n)) (leZ (pos n) DEEPEST) t .1)
 
-atom-back : (x y : Atom) (i j : ℕ) → ByteAtom x → ByteAtom y → atomKey x i ≡ atomKey y j → (x ≡ y) × (i ≡ j)
-atom-back (Has a A) (Has b B) i j p q e =
-    let w = fields 0 a A 0 i 0 b B 0 j (omega arith) (omega arith) p q e in
-    let f = w .first in let g = w .second in (cc, w .number)
-atom-back (Has a A) (Linked b r c) i j p q e =
-    let w = fields 0 a A 0 i 1 b r c j (omega arith) (omega arith) p q e in let t = w .tag in let z : ⊥ = omega arith in absurd z
-atom-back (Linked a r b) (Has c A) i j p q e =
-    let w = fields 1 a r b i 0 c A 0 j (omega arith) (omega arith) p q e in let t = w .tag in let z : ⊥ = omega arith in absurd z
-atom-back (Linked a r b) (Linked c s d) i j p q e =
-    let w = fields 1 a r b i 1 c s d j (omega arith) (omega arith) p q e in
-    let f = w .first in let g = w .second in let h = w .third in (cc, w .number)
+neg-most : (n : ℕ) → T (isDepth (negsuc n)) → n ≤ 9_999
+neg-most n t = leb→le n 9_999 (and-both (leZ SHALLOWEST (negsuc n)) (leZ (negsuc n) DEEPEST) t .0)
 
-mark-back : (m n : Mark) → MarkFits m → MarkFits n → markKey m ≡ markKey n → T (sameMark m n)
+end-back : (i j : ℤ) → T (isDepth i) → T (isDepth j) → endNumber i ≡ endNumber j → i ≡ j
+unfolding endNumber
+end-back (pos m) (pos n) p q e = ap pos (omega (arith, pos-most m p, pos-most n q))
+end-back (pos m) (negsuc n) p q e = let z : ⊥ = omega (arith, pos-most m p, neg-most n q) in absurd z
+end-back (negsuc m) (pos n) p q e = let z : ⊥ = omega (arith, neg-most m p, pos-most n q) in absurd z
+end-back (negsuc m) (negsuc n) p q e = ap negsuc (omega (arith, neg-most m p, neg-most n q))
+
+-- an atom in range has one of the numbers that there is room for, and is told by it
+atom-small : (x : Atom) → T (isMarkable x) → atomNumber x < ATOM-ROOM
+atom-small (Has a A) t = omega (arith, label-names a A (markable-statement (Has a A) t))
+atom-small (Linked a r b) t = omega (arith, link-names a r b t)
+
+atom-back : (x y : Atom) → T (isMarkable x) → T (isMarkable y) → atomNumber x ≡ atomNumber y → x ≡ y
+atom-back (Has a A) (Has b B) p q e =
+    let v = label-names a A (markable-statement (Has a A) p) in
+    let w = label-names b B (markable-statement (Has b B) q) in
+    let d = digit 16 a b A B (v .0) (w .0) e in
+    let f = d .0 in let g = d .1 in cc
+atom-back (Has a A) (Linked b r c) p q e =
+    let v = label-names a A (markable-statement (Has a A) p) in let z : ⊥ = omega arith in absurd z
+atom-back (Linked a r b) (Has c A) p q e =
+    let w = label-names c A (markable-statement (Has c A) q) in let z : ⊥ = omega arith in absurd z
+atom-back (Linked a r b) (Linked c s d) p q e =
+    let v = link-names a r b p in
+    let w = link-names c s d q in
+    let k = digit 16 a c (r + 8 * b) (s + 8 * d) (v .0) (w .0) (add-left-cancel 1_024 e) in
+    let l = digit 8 r s b d (v .1) (w .1) (k .1) in
+    let f = k .0 in let g = l .0 in let h = l .1 in cc
+
+pub end-small : (i : ℤ) → endNumber i < END-ROOM
+unfolding endNumber
+end-small i = omega arith
+
+mark-back : (m n : Mark) → MarkFits m → MarkFits n → markKey m ≡ markKey n → m ≡ n
+unfolding markKey
 mark-back m n p q e =
-    let w = atom-back (m .atom) (n .atom) (depthKey m) (depthKey n) (p .atom) (q .atom) e in
-    both-and (sameAtom (m .atom) (n .atom)) (sameDepth (m .depth) (n .depth))
-    (subst (λ (x : Atom). T (sameAtom (m .atom) x)) (w .0) (atom-same (m .atom)))
-    (same-depths (m .depth) (n .depth) (bits-back (m .depth) (n .depth) (p .depth) (q .depth) (w .1)))
+    let u = mark-markable m p in
+    let v = mark-markable n q in
+    let k =
+    digit ATOM-ROOM (atomNumber (m .atom)) (atomNumber (n .atom))
+    (endNumber (m .top) + END-ROOM * endNumber (m .bottom)) (endNumber (n .top) + END-ROOM * endNumber (n .bottom))
+    (atom-small (m .atom) u) (atom-small (n .atom) v) e in
+    let l =
+    digit END-ROOM (endNumber (m .top)) (endNumber (n .top)) (endNumber (m .bottom)) (endNumber (n .bottom)) (end-small (m .top)) (end-small (n .top)) (k .1) in
+    let d = atom-back (m .atom) (n .atom) u v (k .0) in
+    let f = end-back (m .top) (n .top) (top-placed m p) (top-placed n q) (l .0) in
+    let g = end-back (m .bottom) (n .bottom) (bottom-placed m p) (bottom-placed n q) (l .1) in
+    λ i. record { atom = d i; top = f i; bottom = g i }
 
 pub mark-exact : (m n : Mark) → MarkFits m → MarkFits n → eqb (markKey m) (markKey n) ≡ sameMark m n
-mark-exact m n p q =
-    test-eq (eqb (markKey m) (markKey n)) (sameMark m n)
-    (λ t. mark-back m n p q (eqb→eq (markKey m) (markKey n) t))
-    (λ t. equal (markKey m) (markKey n) (ap markKey (same-mark m n t)))
+mark-exact m n p q = told markKey sameMark same-mark m n (λ e. subst (λ (k : Mark). T (sameMark m k)) (mark-back m n p q e) (mark-same m))

@@ -1,14 +1,21 @@
 -- What is told of a list by its keys. Assumes nothing.
 use mathlib.Core.Path.{_≡_, refl, sym, _∙_}
 use mathlib.Core.Bool.{Bool}
-use mathlib.Core.List.{List, [], _∷_, _++_, map, map-append}
-use Prim.Native.Nat.{ℕ, _+_, _≤_, _<_}
-use lib.Dec.{eqb}
-use lib.ListN.{length, getD, take, set, length-map}
+use mathlib.Core.List.{List, [], _∷_, _++_, map, map-append, append-assoc, List·Memᴰ·head, List·Memᴰ·tail}
+use Prim.Native.Nat.{ℕ, zero, suc, _+_, _*_, _≤_, _<_}
+use native.Mathlib.Omega.{arith}
+use lib.Dec.{T, eqb}
+use lib.IntN.{ℤ}
+use lib.ListN.{length, getD, take, set, length-map, length-set}
 use lib.Seq.{length-take-le}
+use mir.Syntax.{w32}
+use mir.Val.{toZ, ofZ}
+use mir.ValLaws.{toZ-ofZ}
 use Rattle.terms.specs.declared.Mark.{Mark}
 use Rattle.terms.specs.declared.RulePlace.{RulePlace}
-use Rattle.terms.specs.Places.{rulesIn}
+use Rattle.terms.specs.Held.{_∈_, endsOf, isMark}
+use Rattle.terms.specs.Ends.{ends-append}
+use Rattle.terms.specs.Places.{rulesIn, Marks-named}
 use Rattle.terms.specs.Same.{sameDepth}
 use Rattle.terms.specs.Lists.{some, once, depthCount}
 use Rattle.scans.specs.Keys.{All, Key-of, Keys-of, depthKey, DepthFits}
@@ -66,8 +73,30 @@ module _ {X : Type 0} (key : X → ℕ) (P : X → Type 0) where
     once-keys [] a = refl
     once-keys (x ∷ xs) a = rw (some-keys x xs (a .0) (a .1), once-keys xs (a .1))
 
-pub distinct-depths : (ms : List Mark) → All DepthFits ms → distinct (map depthKey ms) ≡ depthCount ms
+-- a depth that was handed on is read back from its bits
+pub handed-on : (i : ℤ) (k : ℕ) → DepthFits i → Key-of depthKey DepthFits (toZ w32 (ofZ w32 i)) k → Key-of depthKey DepthFits i k
+handed-on i k f w = rw (toZ-ofZ w32 i f) at w
+
+-- both ends of one mark more, one after the other
+ends-more : (ms : List Mark) (i : ℕ) (d : Mark) → i < length ms →
+    endsOf (take (i + 1) ms) ≡ (endsOf (take i ms) ++ (getD ms i d .top ∷ [])) ++ (getD ms i d .bottom ∷ [])
+ends-more ms i d h =
+    rw (take-more ms i d h)
+    (ends-append (take i ms) (getD ms i d ∷ []) ∙ sym (append-assoc (endsOf (take i ms)) (getD ms i d .top ∷ []) (getD ms i d .bottom ∷ [])))
+
+-- the keys of both
+pub ends-keys : (ms : List Mark) (out : List ℕ) (i j k : ℕ) (d : Mark) → i < length ms → 2 * i + 1 < length out →
+    Keys-of depthKey DepthFits (endsOf (take i ms)) (take (2 * i) out) → Key-of depthKey DepthFits (getD ms i d .top) j →
+    Key-of depthKey DepthFits (getD ms i d .bottom) k →
+    Keys-of depthKey DepthFits (endsOf (take (i + 1) ms)) (take (2 * (i + 1)) (set (set out (2 * i) j) (2 * i + 1) k))
+ends-keys ms out i j k d h l w t b =
+    let n : 2 * (i + 1) ≡ 2 * i + 1 + 1 = omega arith in
+    let m = length-set out (2 * i) j in
+    let v = keys-more depthKey DepthFits (endsOf (take i ms)) _ (getD ms i d .top) out (2 * i) j refl (omega arith) w t in
+    rw n
+    (keys-more depthKey DepthFits _ (endsOf (take (i + 1) ms)) (getD ms i d .bottom) (set out (2 * i) j) (2 * i + 1) k (ends-more ms i d h) (omega arith) v b)
+
+pub distinct-depths : (ds : List ℤ) → All DepthFits ds → distinct (map depthKey ds) ≡ depthCount ds
 unfolding distinct depthCount All
 distinct-depths [] a = refl
-distinct-depths (m ∷ ms) a =
-    rw (some-keys depthKey DepthFits (λ m n. sameDepth (m .depth) (n .depth)) depth-exact m ms (a .0) (a .1), distinct-depths ms (a .1))
+distinct-depths (d ∷ ds) a = rw (some-keys depthKey DepthFits sameDepth depth-exact d ds (a .0) (a .1), distinct-depths ds (a .1))

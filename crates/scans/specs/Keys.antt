@@ -1,9 +1,9 @@
 -- Each rule, mark and depth as one number, so that two are compared at once. Assumes nothing.
 use mathlib.Core.Path.{_≡_}
-use mathlib.Core.Bool.{Bool, cond}
 use mathlib.Core.List.{List, [], _∷_, map}
-use Prim.Native.Nat.{ℕ, suc, _+_, _*_, _<_}
-use lib.Dec.{eqb}
+use Prim.Native.Nat.{ℕ, _+_, _*_, _%_, _<_}
+use lib.Dec.{T}
+use lib.IntN.{ℤ}
 use mir.Syntax.{w32}
 use mir.Val.{SFits, ofZ}
 use Rattle.terms.specs.declared.Rule.{Rule}
@@ -12,8 +12,7 @@ use Rattle.terms.specs.declared.Atom.the-variants.{Has, Linked}
 use Rattle.terms.specs.declared.Mark.{Mark}
 use Rattle.terms.specs.Operators.{codeOf, distanceOf}
 use Rattle.terms.specs.Same.{kindOf, firstOf, secondOf, thirdOf}
-use Rattle.terms.specs.Held.{operatorIn}
-use Rattle.terms.specs.Lists.{some}
+use Rattle.terms.specs.Held.{operatorIn, isMark}
 
 -- five fields in one number: four bytes, and n above them
 unfoldable pub packedFields : ℕ → ℕ → ℕ → ℕ → ℕ → ℕ
@@ -28,17 +27,28 @@ abbrev pub ruleKey : Rule → ℕ
 ruleKey ρ = packedFields (tagOf ρ) (firstOf ρ) (secondOf ρ) (thirdOf ρ) (distanceOf (operatorIn ρ))
 
 -- a depth by its bits
-abbrev pub depthKey : Mark → ℕ
-depthKey m = ofZ w32 (m .depth)
+abbrev pub depthKey : ℤ → ℕ
+depthKey i = ofZ w32 i
 
--- an atom with n beside it
-abbrev pub atomKey : Atom → ℕ → ℕ
-atomKey (Has a A) n = packedFields 0 a A 0 n
-atomKey (Linked a r b) n = packedFields 1 a r b n
+-- room for atoms and for ends in a mark's key: powers of two, above the atoms and the depths that marks in range have
+abbrev pub ATOM-ROOM : ℕ
+ATOM-ROOM = 4_096
 
--- a mark by its atom and depth
-abbrev pub markKey : Mark → ℕ
-markKey m = atomKey (m .atom) (depthKey m)
+abbrev pub END-ROOM : ℕ
+END-ROOM = 262_144
+
+-- an atom by its names, a label's below 1024 and a link's from there on
+abbrev pub atomNumber : Atom → ℕ
+atomNumber (Has a A) = a + 16 * A
+atomNumber (Linked a r b) = 1_024 + (a + 16 * (r + 8 * b))
+
+-- an end by its lowest 18 bits
+unfoldable pub endNumber : ℤ → ℕ
+endNumber i = ofZ w32 i % END-ROOM
+
+-- a mark by its atom and both ends
+unfoldable pub markKey : Mark → ℕ
+markKey m = atomNumber (m .atom) + ATOM-ROOM * (endNumber (m .top) + END-ROOM * endNumber (m .bottom))
 
 -- three names that are bytes
 pub record Bytes (a b c : ℕ) : Type 0 where
@@ -50,19 +60,13 @@ pub record Bytes (a b c : ℕ) : Type 0 where
 abbrev pub ByteRule : Rule → Type 0
 ByteRule ρ = Bytes (firstOf ρ) (secondOf ρ) (thirdOf ρ)
 
--- an atom whose names are bytes
-abbrev pub ByteAtom : Atom → Type 0
-ByteAtom (Has a A) = Bytes a A 0
-ByteAtom (Linked a r b) = Bytes a r b
+-- a depth of 32 bits
+abbrev pub DepthFits : ℤ → Type 0
+DepthFits i = SFits w32 i
 
--- a mark whose depth is a number of 32 bits
-pub record DepthFits (m : Mark) : Type 0 where
-  pub depth : SFits w32 (m .depth)
-
--- a mark whose names are bytes as well
-pub record MarkFits (m : Mark) : Type 0 where
-  pub atom : ByteAtom (m .atom)
-  pub depth : SFits w32 (m .depth)
+-- a mark in range
+abbrev pub MarkFits : Mark → Type 0
+MarkFits m = T (isMark m)
 
 -- each element has P
 unfoldable pub All : {X : Type 0} → (X → Type 0) → List X → Type 0

@@ -1,17 +1,23 @@
 // Scans of the rules and marks in their places, by keys.
 ghost use mathlib.Core.Path.{_≡_};
-ghost use Prim.Native.Nat.{_≤_};
+ghost use Prim.Native.Nat.{_*_, _≤_};
+ghost use lib.Dec.{T};
 ghost use lib.ListN.{take};
-ghost use Rattle.terms.specs.Held.{isRule, isMark};
-ghost use Rattle.terms.specs.Places.{rulesIn};
-ghost use Rattle.terms.specs.Same.{sameRule, sameMark, sameDepth};
+ghost use Rattle.terms.specs.Held.{isRule, isMark, endsOf};
+ghost use Rattle.terms.specs.Places.{rulesIn, Marks-named};
+ghost use Rattle.terms.specs.Same.{sameRule, sameMark};
 ghost use Rattle.terms.specs.Lists.{some, every, once, depthCount};
 ghost use Rattle.keys.specs.Search.{indexOf};
-ghost use Rattle.scans.specs.Keys.{packedFields, ruleKey, markKey, depthKey, ByteRule, MarkFits, DepthFits, Key-of, Keys-of};
+ghost use Rattle.scans.specs.Keys.{packedFields, ruleKey, markKey, depthKey, atomNumber, endNumber, ByteRule, MarkFits, DepthFits, Key-of, Keys-of};
 use terms::Atom;
 use terms::Mark;
 use terms::Rule;
 use terms::RulePlace;
+
+// Room for atoms and for ends in a mark's key.
+const ATOM_ROOM: u64 = 4_096;
+
+const END_ROOM: u64 = 262_144;
 
 // Five fields in one number.
 fn pack(tag: u8, first: u8, second: u8, third: u8, n: u32) -> u64
@@ -33,23 +39,42 @@ fn rule_key(rule: Rule) -> u64
     }
 }
 
-// A mark as one number.
-fn mark_key(mark: Mark) -> u64
-    ensures { λ r. ⌜ Key-of markKey MarkFits mark r ⌝ }
+// An atom as a number, which no other atom in range has.
+fn atom_number(atom: Atom) -> u16
+    ensures { λ r. ⌜ r ≡ atomNumber atom ⌝ }
 {
-    let atom = mark.atom;
-    let depth = codec::bits32(mark.depth);
     match atom {
-        Atom::Has(item, label) => pack(0, item, label, 0, depth),
-        Atom::Linked(from, kind, to) => pack(1, from, kind, to, depth),
+        Atom::Has(item, label) => item as u16 + 16 * (label as u16),
+        Atom::Linked(from, kind, to) => {
+            1_024 + (from as u16 + 16 * (kind as u16 + 8 * (to as u16)))
+        }
     }
 }
 
-// A mark's depth alone.
-fn depth_key(mark: Mark) -> u64
-    ensures { λ r. ⌜ Key-of depthKey DepthFits mark r ⌝ }
+// An end's lowest bits, which no other depth where marks lie has.
+fn end_number(depth: i32) -> u64
+    ensures { λ r. ⌜ r ≡ endNumber depth ⌝ }
 {
-    codec::bits32(mark.depth) as u64
+    codec::bits32(depth) as u64 % END_ROOM
+}
+
+// A mark as one number.
+fn mark_key(mark: Mark) -> u64
+    requires { ⌜ T (isMark mark) ⌝ }
+    ensures { λ r. ⌜ Key-of markKey MarkFits mark r ⌝ }
+{
+    let atom = mark.atom;
+    let number = atom_number(atom) as u64;
+    let top = end_number(mark.top);
+    let bottom = end_number(mark.bottom);
+    number + ATOM_ROOM * (top + END_ROOM * bottom)
+}
+
+// A depth as one number, whatever it is.
+fn depth_key(depth: i32) -> u64
+    ensures { λ r. ⌜ Key-of depthKey DepthFits depth r ⌝ }
+{
+    codec::bits32(depth) as u64
 }
 
 // The keys of the first places.
@@ -67,7 +92,7 @@ fn rule_keys(places: [RulePlace; 128], count: usize) -> [u64; 128]
 }
 
 fn mark_keys(marks: [Mark; 256], count: usize) -> [u64; 256]
-    requires { ⌜ count ≤ 256 ⌝ }
+    requires { ⌜ Marks-named marks count ⌝ }
     ensures { λ r. ⌜ Keys-of markKey MarkFits (take count marks) (take count r) ⌝ }
 {
     let mut keys = [0u64; 256];
@@ -78,14 +103,16 @@ fn mark_keys(marks: [Mark; 256], count: usize) -> [u64; 256]
     keys
 }
 
-fn depth_keys(marks: [Mark; 256], count: usize) -> [u64; 256]
+// The keys of both ends of each mark, the top before the bottom.
+fn depth_keys(marks: [Mark; 256], count: usize) -> [u64; 512]
     requires { ⌜ count ≤ 256 ⌝ }
-    ensures { λ r. ⌜ Keys-of depthKey DepthFits (take count marks) (take count r) ⌝ }
+    ensures { λ r. ⌜ Keys-of depthKey DepthFits (endsOf (take count marks)) (take (2 * count) r) ⌝ }
 {
-    let mut keys = [0u64; 256];
+    let mut keys = [0u64; 512];
     for i in 0..count {
         let mark = marks[i];
-        keys[i] = depth_key(mark);
+        keys[2 * i] = depth_key(mark.top);
+        keys[2 * i + 1] = depth_key(mark.bottom);
     }
     keys
 }
@@ -101,7 +128,8 @@ pub fn has_rule(places: [RulePlace; 128], count: usize, rule: Rule) -> bool
 
 // The place of the same mark, `count` where there is none.
 pub fn mark_index(marks: [Mark; 256], count: usize, mark: Mark) -> usize
-    requires { ⌜ count ≤ 256 ⌝ }
+    requires { ⌜ Marks-named marks count ⌝ }
+    requires { ⌜ T (isMark mark) ⌝ }
     ensures { λ r. ⌜ r ≡ indexOf (sameMark mark) (take count marks) ⌝ }
 {
     let keys = mark_keys(marks, count);
@@ -109,22 +137,14 @@ pub fn mark_index(marks: [Mark; 256], count: usize, mark: Mark) -> usize
     keys::first(&keys[..count], 0, key)
 }
 
-// Some mark has the depth of this one.
-pub fn has_depth(marks: [Mark; 256], count: usize, mark: Mark) -> bool
-    requires { ⌜ count ≤ 256 ⌝ }
-    ensures { λ r. ⌜ r ≡ some (λ n. sameDepth (mark .depth) (n .depth)) (take count marks) ⌝ }
-{
-    let keys = depth_keys(marks, count);
-    let key = depth_key(mark);
-    keys::is_behind(&keys[..count], 0, key)
-}
-
+// How many depths are an end of some mark.
 pub fn depth_count(marks: [Mark; 256], count: usize) -> usize
     requires { ⌜ count ≤ 256 ⌝ }
-    ensures { λ r. ⌜ r ≡ depthCount (take count marks) ⌝ }
+    ensures { λ r. ⌜ r ≡ depthCount (endsOf (take count marks)) ⌝ }
 {
     let keys = depth_keys(marks, count);
-    keys::distinct_keys(&keys[..count])
+    let ends = 2 * count;
+    keys::distinct_keys(&keys[..ends])
 }
 
 pub fn rules_once(places: [RulePlace; 128], count: usize) -> bool
@@ -136,7 +156,7 @@ pub fn rules_once(places: [RulePlace; 128], count: usize) -> bool
 }
 
 pub fn marks_once(marks: [Mark; 256], count: usize) -> bool
-    requires { ⌜ count ≤ 256 ⌝ }
+    requires { ⌜ Marks-named marks count ⌝ }
     ensures { λ r. ⌜ r ≡ once sameMark (take count marks) ⌝ }
 {
     let keys = mark_keys(marks, count);

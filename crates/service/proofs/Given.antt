@@ -5,15 +5,15 @@ use Prim.Native.Nat.{ℕ, _≤_}
 use native.Mathlib.Omega.{arith}
 use lib.IntN.{ℤ}
 use lib.ListN.{length, take}
-use Rattle.terms.specs.declared.Mark.{Mark}
-use Rattle.terms.specs.Limits.{CUTS, isDepth}
-use Rattle.terms.specs.Tests.{and-both}
-use Rattle.terms.specs.Held.{isRule, isMark, isMarkable}
-use Rattle.terms.specs.Places.{rulesIn, ruleAt}
+use Rattle.terms.specs.Limits.{CUTS}
+use Rattle.terms.specs.Held.{endsOf, isRule}
+use Rattle.terms.specs.Ends.{ends-placed}
+use Rattle.terms.specs.Places.{Marks-named, rulesIn, ruleAt}
 use Rattle.line.specs.Intervals.{cutsOf}
 use Rattle.line.specs.Code.{Cuts-in, Low-cuts, Now-cuts, held-cuts, low-cuts}
 use Rattle.state.specs.declared.State.{State}
 use Rattle.state.specs.State.{heldOf}
+use Rattle.state.specs.Holding.{marks-named}
 use Rattle.tables.specs.Seeded.{Lists-in}
 use Rattle.terms.specs.Limited.{Limited, limited, every-in}
 use Rattle.steps.specs.Places.{rule-in-places}
@@ -27,6 +27,10 @@ module _ (s : State) (H : Held-state s) where
   pub few : length (cutsOf (heldOf s)) ≤ CUTS
   few = few-cuts (heldOf s) kept
 
+  -- the held marks are in range
+  pub named : Marks-named (s .marks) (s .«mark_count»)
+  named = marks-named s (H .counts) (kept .marks)
+
   pub lists-in : Lists-in (s .rules) (s .«rule_count») (s .marks) (s .«mark_count»)
   lists-in = record {
     rules = record {
@@ -36,22 +40,16 @@ module _ (s : State) (H : Held-state s) where
           every-in isRule (rulesIn (s .rules) (s .«rule_count»)) (kept .rules) (ruleAt (s .rules) q)
           (rule-in-places (s .rules) (s .«rule_count») q l (omega (arith, H .counts .few-rules, H .counts .rule-places)));
     };
-    marks = record {
-      size = H .counts .mark-places;
-      few = H .counts .few-marks;
-      each = λ k m. every-in isMark (take (s .«mark_count») (s .marks)) (kept .marks) k m;
-    };
+    marks = named;
     cuts = few;
   }
 
   -- the cuts that were filled in
   pub line-in : {was line : List ℤ} {r : ℕ} → Now-cuts (cutsOf (heldOf s)) was line r → Cuts-in line r
-  line-in w = held-cuts (heldOf s .marks) w few
+  line-in w = held-cuts (endsOf (heldOf s .marks)) w few
 
   pub line-low : {was line : List ℤ} {r : ℕ} → Now-cuts (cutsOf (heldOf s)) was line r → Low-cuts line r
-  line-low w =
-      low-cuts (heldOf s .marks)
-      (λ (m : Mark) n. and-both (isMarkable (m .atom)) (isDepth (m .depth)) (every-in isMark (heldOf s .marks) (kept .marks) m n) .1) w
+  line-low w = low-cuts (endsOf (heldOf s .marks)) (ends-placed (heldOf s .marks) (named .each)) w
 
   pub line-few : {was line : List ℤ} {r : ℕ} → Now-cuts (cutsOf (heldOf s)) was line r → length (take r line) ≤ CUTS
   line-few w = omega (arith, ap length (w .list), few)

@@ -1,21 +1,21 @@
 -- What the tests come to, and what an operation then answers. Assumes nothing.
 use mathlib.Core.Path.{_≡_, refl, sym, ap, _∙_}
-use mathlib.Core.Bool.{Bool, true, false, not, _&&_}
-use mathlib.Core.List.{List, [], _∷_}
+use mathlib.Core.Bool.{Bool, true, false}
+use mathlib.Core.List.{List, [], _∷_, _++_}
 use Prim.Native.Nat.{ℕ, _<_}
 use native.Mathlib.Omega.{arith}
 use borrow.Author.Tests.{leb-false}
-use lib.Dec.{leb}
+use lib.Dec.{leb, ltb}
 use lib.ListN.{length}
 use Rattle.terms.specs.declared.Rule.{Rule}
 use Rattle.terms.specs.declared.Mark.{Mark}
 use Rattle.terms.specs.declared.Tested.{Tested}
 use Rattle.terms.specs.declared.Tested.the-variants as Tested
 use Rattle.terms.specs.Limits.{RULES, MARKS, DEPTHS}
-use Rattle.terms.specs.Held.{Held}
+use Rattle.terms.specs.Held.{Held, endsOf}
 use Rattle.terms.specs.Refusals.{Test, test, tested}
 use Rattle.terms.specs.Otherwise.{onTested}
-use Rattle.terms.specs.Same.{sameRule, sameMark, sameDepth}
+use Rattle.terms.specs.Same.{sameRule, sameMark}
 use Rattle.terms.specs.Lists.{some, depthCount}
 use Rattle.state.specs.declared.State.{State}
 use Rattle.state.specs.State.{Listed-as}
@@ -44,4 +44,4 @@ rule-room h ρ z = room (some (sameRule ρ) (h .rules)) (leb RULES (length (h .r
 pub put-room : (h : Held) (m : Mark) → tested (putTests h m) ≡ Tested.Passed → length (h .marks) < MARKS
 put-room h m z =
     room (some (sameMark m) (h .marks)) (leb MARKS (length (h .marks))) (length (h .marks)) MARKS
-    (test (not (some (λ n. sameDepth (m .depth) (n .depth)) (h .marks)) && leb DEPTHS (depthCount (h .marks))) 12 ∷ []) refl z
+    (test (ltb DEPTHS (depthCount (endsOf (h .marks ++ (m ∷ []))))) 12 ∷ []) refl z

@@ -1,26 +1,26 @@
 -- 01's book on the held lists: the tests of the rows `lists`, and what an accepted record changes.
-use mathlib.Core.Bool.{not, _&&_}
+use mathlib.Core.Bool.{not}
 use mathlib.Core.List.{List, [], _∷_, _++_}
-use lib.Dec.{leb}
+use lib.Dec.{leb, ltb}
 use lib.ListN.{length}
 use Rattle.terms.specs.declared.Rule.{Rule}
 use Rattle.terms.specs.declared.Mark.{Mark}
 use Rattle.terms.specs.Limits.{RULES, MARKS, DEPTHS}
-use Rattle.terms.specs.Held.{Held, withRules, withMarks}
+use Rattle.terms.specs.Held.{Held, endsOf, withRules, withMarks}
 use Rattle.terms.specs.Refusals.{Test, test}
-use Rattle.terms.specs.Same.{sameRule, sameMark, sameDepth}
+use Rattle.terms.specs.Same.{sameRule, sameMark}
 use Rattle.terms.specs.Lists.{some, strike, depthCount}
 
 -- 01, Where a record is turned away, lists: a rule
 abbrev pub ruleTests : Held → Rule → List Test
 ruleTests h ρ = test (some (sameRule ρ) (h .rules)) 9 ∷ test (leb RULES (length (h .rules))) 11 ∷ []
 
--- a mark to put
+-- a mark to put, with 12 by 02, Slip 2: the ends of the held marks and the new one together are more than 96
 abbrev pub putTests : Held → Mark → List Test
 putTests h m =
     test (some (sameMark m) (h .marks)) 9
     ∷ test (leb MARKS (length (h .marks))) 11
-    ∷ test (not (some (λ n. sameDepth (m .depth) (n .depth)) (h .marks)) && leb DEPTHS (depthCount (h .marks))) 12
+    ∷ test (ltb DEPTHS (depthCount (endsOf (h .marks ++ (m ∷ []))))) 12
     ∷ []
 
 -- a mark to take

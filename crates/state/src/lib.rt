@@ -2,8 +2,11 @@
 ghost use mathlib.Core.Path.{_≡_};
 ghost use mathlib.Core.List.{_++_};
 ghost use Prim.Native.Nat.{_+_, _-_, _≤_, _<_};
+ghost use lib.Dec.{T};
 ghost use lib.ListN.{take, drop};
 ghost use Rattle.terms.specs.Limits.{RULES, MARKS};
+ghost use Rattle.terms.specs.Held.{isMark};
+ghost use Rattle.terms.specs.Places.{Marks-named};
 ghost use Rattle.terms.specs.Lists.{limits};
 ghost use Rattle.terms.specs.Refusals.{tested as testedBy};
 ghost use Rattle.state.specs.State.{Counts-in, heldOf, emptyState, Listed-as};
@@ -113,6 +116,8 @@ impl State {
     // The tests of a mark to put.
     fn put_tested(self, mark: Mark) -> Tested
         requires { ⌜ Counts-in self ⌝ }
+        requires { ⌜ Marks-named (self .marks) (self .«mark_count») ⌝ }
+        requires { ⌜ T (isMark mark) ⌝ }
         ensures { λ r. ⌜ r ≡ testedBy (putTests (heldOf self) mark) ⌝ }
     {
         let marks = self.marks;
@@ -123,10 +128,9 @@ impl State {
         if MARKS <= count {
             return Tested::Refused(11);
         }
-        if scans::has_depth(marks, count, mark) {
-            return Tested::Passed;
-        }
-        if DEPTHS <= scans::depth_count(marks, count) {
+        let mut with_mark = marks;
+        with_mark[count] = mark;
+        if DEPTHS < scans::depth_count(with_mark, count + 1) {
             return Tested::Refused(12);
         }
         Tested::Passed
@@ -147,6 +151,8 @@ impl State {
     // The mark at the end of its list.
     pub fn put(self, mark: Mark) -> Listed
         requires { ⌜ Counts-in self ⌝ }
+        requires { ⌜ Marks-named (self .marks) (self .«mark_count») ⌝ }
+        requires { ⌜ T (isMark mark) ⌝ }
         ensures { λ r. ⌜ Listed-as (putTests (heldOf self) mark) (heldOf self) (putMark (heldOf self) mark) r ⌝ }
     {
         let tested = self.put_tested(mark);
@@ -165,6 +171,8 @@ impl State {
     // The mark away from its list.
     pub fn take(self, mark: Mark) -> Listed
         requires { ⌜ Counts-in self ⌝ }
+        requires { ⌜ Marks-named (self .marks) (self .«mark_count») ⌝ }
+        requires { ⌜ T (isMark mark) ⌝ }
         ensures { λ r. ⌜ Listed-as (takeTests (heldOf self) mark) (heldOf self) (takeMark (heldOf self) mark) r ⌝ }
     {
         let count = self.mark_count;
@@ -186,7 +194,8 @@ impl State {
         }
     }
 
-    // What the lists and settings keep: few enough depths, each rule and mark in range, none twice, and settings that there are.
+    // What the lists and settings keep: each rule and mark in range, few enough depths, none twice, and settings that there are. The ranges
+    // come first: the keys tell apart marks that are in range.
     pub fn within_limits(self) -> bool
         requires { ⌜ Counts-in self ⌝ }
         ensures { λ r. ⌜ r ≡ limits (heldOf self) ⌝ }
@@ -196,10 +205,13 @@ impl State {
         let marks = self.marks;
         let mark_count = self.mark_count;
         let settings = self.settings;
-        let few = scans::depth_count(marks, mark_count) <= DEPTHS;
         let in_range = scans::rules_in_range(rules, rule_count)
             & scans::marks_in_range(marks, mark_count);
+        if !in_range {
+            return false;
+        }
+        let few = scans::depth_count(marks, mark_count) <= DEPTHS;
         let once = scans::rules_once(rules, rule_count) & scans::marks_once(marks, mark_count);
-        few & in_range & (once & settings.in_range())
+        few & (once & settings.in_range())
     }
 }

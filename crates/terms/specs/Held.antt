@@ -1,9 +1,8 @@
 -- What is held, and the ranges of what can be.
-use mathlib.Core.Path.{_≡_}
 use mathlib.Core.Bool.{Bool, true, _&&_}
-use mathlib.Core.List.{List, [], List·Memᴰ}
-use lib.Dec.{T}
+use mathlib.Core.List.{List, [], _∷_, List·Memᴰ}
 use lib.IntN.{ℤ}
+use lib.Signed.{_≤ℤ_, leZ}
 use Rattle.terms.specs.declared.Operator.{Operator}
 use Rattle.terms.specs.declared.Operator.the-variants.{Between}
 use Rattle.terms.specs.declared.Rule.{Rule}
@@ -44,9 +43,14 @@ withMarks h ms = record { rules = h .rules; marks = ms; settings = h .settings }
 abbrev pub emptyHeld : Held
 emptyHeld = record { rules = []; marks = []; settings = freshSettings }
 
--- where a mark is true: at its depth
+-- 02, Slip 2: where a mark is true, at each depth from its top to its bottom
 abbrev pub At : Mark → ℤ → Type 0
-At m i = m .depth ≡ i
+At m i = (m .top ≤ℤ i) × (i ≤ℤ m .bottom)
+
+-- 02, Slip 2: the marked depths, both ends of each mark
+abbrev pub endsOf : List Mark → List ℤ
+endsOf [] = []
+endsOf (m ∷ ms) = m .top ∷ m .bottom ∷ endsOf ms
 
 -- 01, Rules of derivation: a statement names items, a label or a link kind that there are
 abbrev pub isStatement : Atom → Bool
@@ -76,10 +80,18 @@ isNamed (Via r A B) = isKind r && (isLeft A && isConcluded B)
 abbrev pub isRule : Rule → Bool
 isRule ρ = isOperator (operatorIn ρ) && isNamed ρ
 
--- 01, Records: the fields of a mark, without its depth
+-- 01, Records: the fields of a mark, without its ends
 abbrev pub isMarkable : Atom → Bool
 isMarkable (Has a A) = isItem a && isMarked A
 isMarkable (Linked a r b) = isItem a && (isKind r && isItem b)
 
+-- 01, Names and depths: both ends lie where marks lie
+abbrev pub isPlaced : Mark → Bool
+isPlaced m = isDepth (m .top) && isDepth (m .bottom)
+
+-- 02, Slip 2: the top is not deeper than the bottom
+abbrev pub isOrdered : Mark → Bool
+isOrdered m = leZ (m .top) (m .bottom)
+
 abbrev pub isMark : Mark → Bool
-isMark m = isMarkable (m .atom) && isDepth (m .depth)
+isMark m = isMarkable (m .atom) && (isPlaced m && isOrdered m)

@@ -4,7 +4,6 @@ pub mod Limits
 pub mod Stated
 pub mod Refusals
 pub mod Otherwise
-pub mod Ranks
 pub mod Operators
 pub mod Readings
 pub mod Answers
@@ -14,8 +13,10 @@ pub mod SameLaws
 pub mod Held
 pub mod Names
 pub mod Places
+pub mod Ends
 pub mod Lists
 pub mod Limited
+pub mod Ranks
 pub mod Model
 pub mod Transfer
 pub mod Depths

@@ -12,7 +12,7 @@ use Rattle.terms.specs.declared.Rule.{Rule}
 use Rattle.terms.specs.declared.Mark.{Mark}
 use Rattle.terms.specs.Tests.{and-both, both-and, or-one, or-left, or-right}
 use Rattle.terms.specs.Limits.{RULES, MARKS, DEPTHS}
-use Rattle.terms.specs.Held.{_∈_, Held, isRule, isMark, isSettings}
+use Rattle.terms.specs.Held.{_∈_, Held, endsOf, isRule, isMark, isSettings}
 use Rattle.terms.specs.Same.{sameRule, sameMark}
 use Rattle.terms.specs.Lists.{some, every, strike, once, depthCount, limits}
 
@@ -113,7 +113,7 @@ module _ {X : Type 0} (alike : X → X → Bool) (alike-eq : (x y : X) → T (al
 pub record Limited (h : Held) : Type 0 where
   pub few-rules : length (h .rules) ≤ RULES
   pub few-marks : length (h .marks) ≤ MARKS
-  pub few-depths : depthCount (h .marks) ≤ DEPTHS
+  pub few-depths : depthCount (endsOf (h .marks)) ≤ DEPTHS
   pub rules : T (every isRule (h .rules))
   pub marks : T (every isMark (h .marks))
   pub once-rules : T (once sameRule (h .rules))
@@ -125,7 +125,7 @@ unfolding limits
 limited h t =
     let a = and-both (leb (length (h .rules)) RULES) _ t in
     let b = and-both (leb (length (h .marks)) MARKS) _ (a .1) in
-    let c = and-both (leb (depthCount (h .marks)) DEPTHS) _ (b .1) in
+    let c = and-both (leb (depthCount (endsOf (h .marks))) DEPTHS) _ (b .1) in
     let d = and-both (every isRule (h .rules)) _ (c .1) in
     let e = and-both (every isMark (h .marks)) _ (d .1) in
     let f = and-both (once sameRule (h .rules)) _ (e .1) in
@@ -133,7 +133,7 @@ limited h t =
     record {
       few-rules = leb→le (length (h .rules)) RULES (a .0);
       few-marks = leb→le (length (h .marks)) MARKS (b .0);
-      few-depths = leb→le (depthCount (h .marks)) DEPTHS (c .0);
+      few-depths = leb→le (depthCount (endsOf (h .marks))) DEPTHS (c .0);
       rules = d .0;
       marks = e .0;
       once-rules = f .0;
@@ -146,7 +146,7 @@ unfolding limits
 of-limited h w =
     both-and (leb (length (h .rules)) RULES) _ (le→leb (length (h .rules)) RULES (w .few-rules))
     (both-and (leb (length (h .marks)) MARKS) _ (le→leb (length (h .marks)) MARKS (w .few-marks))
-    (both-and (leb (depthCount (h .marks)) DEPTHS) _ (le→leb (depthCount (h .marks)) DEPTHS (w .few-depths))
+    (both-and (leb (depthCount (endsOf (h .marks))) DEPTHS) _ (le→leb (depthCount (endsOf (h .marks))) DEPTHS (w .few-depths))
     (both-and (every isRule (h .rules)) _ (w .rules)
     (both-and (every isMark (h .marks)) _ (w .marks)
     (both-and (once sameRule (h .rules)) _ (w .once-rules)

@@ -3,10 +3,10 @@ use mathlib.Core.Bool.{Bool, true, false, not, cond, _&&_, _||_}
 use mathlib.Core.List.{List, [], _∷_}
 use Prim.Native.Nat.{ℕ, _+_}
 use lib.Dec.{leb}
+use lib.IntN.{ℤ}
 use lib.ListN.{length}
-use Rattle.terms.specs.declared.Mark.{Mark}
 use Rattle.terms.specs.Limits.{RULES, MARKS, DEPTHS}
-use Rattle.terms.specs.Held.{Held, isRule, isMark, isSettings}
+use Rattle.terms.specs.Held.{Held, endsOf, isRule, isMark, isSettings}
 use Rattle.terms.specs.Same.{sameRule, sameMark, sameDepth}
 
 -- some element passes
@@ -29,13 +29,13 @@ unfoldable pub once : {X : Type 0} → (X → X → Bool) → List X → Bool
 once alike [] = true
 once alike (x ∷ xs) = not (some (alike x) xs) && once alike xs
 
--- 01, Names and depths: how many distinct depths are marked
-unfoldable pub depthCount : List Mark → ℕ
+-- 01, Names and depths: how many distinct depths there are in a list
+unfoldable pub depthCount : List ℤ → ℕ
 depthCount [] = 0
-depthCount (m ∷ ms) = cond (some (λ n. sameDepth (m .depth) (n .depth)) ms) 0 1 + depthCount ms
+depthCount (d ∷ ds) = cond (some (sameDepth d) ds) 0 1 + depthCount ds
 
 -- 01, Names and depths and Records: what the held lists and settings keep
 unfoldable pub limits : Held → Bool
 limits h =
-    leb (length (h .rules)) RULES && (leb (length (h .marks)) MARKS && (leb (depthCount (h .marks)) DEPTHS
+    leb (length (h .rules)) RULES && (leb (length (h .marks)) MARKS && (leb (depthCount (endsOf (h .marks))) DEPTHS
     && (every isRule (h .rules) && (every isMark (h .marks) && (once sameRule (h .rules) && (once sameMark (h .marks) && isSettings (h .settings)))))))

@@ -27,7 +27,7 @@ abbrev pub sameDepth : ℤ → ℤ → Bool
 sameDepth i j = leZ i j && leZ j i
 
 abbrev pub sameMark : Mark → Mark → Bool
-sameMark m n = sameAtom (m .atom) (n .atom) && sameDepth (m .depth) (n .depth)
+sameMark m n = sameAtom (m .atom) (n .atom) && (sameDepth (m .top) (n .top) && sameDepth (m .bottom) (n .bottom))
 
 -- a rule's kind, operator and fields
 abbrev pub kindOf : Rule → ℕ

@@ -71,13 +71,17 @@ depth-same i = both-and (leZ i i) (leZ i i) (≤-refl i .le) (≤-refl i .le)
 
 pub same-mark : (m n : Mark) → T (sameMark m n) → m ≡ n
 same-mark m n t =
-    let w = and-both (sameAtom (m .atom) (n .atom)) (sameDepth (m .depth) (n .depth)) t in
+    let w = and-both (sameAtom (m .atom) (n .atom)) (sameDepth (m .top) (n .top) && sameDepth (m .bottom) (n .bottom)) t in
+    let v = and-both (sameDepth (m .top) (n .top)) (sameDepth (m .bottom) (n .bottom)) (w .1) in
     let d = same-atom (m .atom) (n .atom) (w .0) in
-    let e = same-depth (m .depth) (n .depth) (w .1) in
-    λ i. record { atom = d i; depth = e i }
+    let e = same-depth (m .top) (n .top) (v .0) in
+    let f = same-depth (m .bottom) (n .bottom) (v .1) in
+    λ i. record { atom = d i; top = e i; bottom = f i }
 
 pub mark-same : (m : Mark) → T (sameMark m m)
-mark-same m = both-and (sameAtom (m .atom) (m .atom)) (sameDepth (m .depth) (m .depth)) (atom-same (m .atom)) (depth-same (m .depth))
+mark-same m =
+    both-and (sameAtom (m .atom) (m .atom)) (sameDepth (m .top) (m .top) && sameDepth (m .bottom) (m .bottom)) (atom-same (m .atom))
+    (both-and (sameDepth (m .top) (m .top)) (sameDepth (m .bottom) (m .bottom)) (depth-same (m .top)) (depth-same (m .bottom)))
 
 -- the parts of the test of two rules
 pub record SameParts (ρ σ : Rule) : Type 0 where

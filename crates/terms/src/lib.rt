@@ -8,7 +8,7 @@ ghost use Rattle.terms.specs.Otherwise.{orElse, readTested};
 ghost use Rattle.terms.specs.declared.Tested.the-variants as Came;
 ghost use Rattle.terms.specs.Operators.{readIf, operatorOf, codeOf, distanceOf, isOperator, orIdentity};
 ghost use Rattle.terms.specs.Answers.{numberOf, valueOf};
-ghost use Rattle.terms.specs.Held.{operatorIn, isSettings, isNamed, isRule, isMarkable, isStatement, isMark, isQuestion};
+ghost use Rattle.terms.specs.Held.{operatorIn, isSettings, isNamed, isRule, isMarkable, isStatement, isPlaced, isOrdered, isMark, isQuestion};
 
 pub const ITEMS: u8 = 16;
 
@@ -376,24 +376,40 @@ impl Question {
     }
 }
 
+// A statement from a top to a bottom depth, true at each from one to the other.
 pub struct Mark {
     pub atom: Atom,
-    pub depth: i32,
+    pub top: i32,
+    pub bottom: i32,
 }
 
 impl Mark {
     // What stands in a free place of the mark list.
     pub const EMPTY: Mark = Mark {
         atom: Atom::Has(0, 0),
-        depth: 0,
+        top: 0,
+        bottom: 0,
     };
+
+    // Both ends are depths that a mark may have.
+    pub fn is_placed(self) -> bool
+        ensures { λ r. ⌜ r ≡ isPlaced self ⌝ }
+    {
+        is_depth(self.top) & is_depth(self.bottom)
+    }
+
+    // The top is not deeper than the bottom.
+    pub fn is_ordered(self) -> bool
+        ensures { λ r. ⌜ r ≡ isOrdered self ⌝ }
+    {
+        self.top <= self.bottom
+    }
 
     pub fn in_range(self) -> bool
         ensures { λ r. ⌜ r ≡ isMark self ⌝ }
     {
         let atom = self.atom;
-        let depth = self.depth;
-        atom.is_markable() & is_depth(depth)
+        atom.is_markable() & (self.is_placed() & self.is_ordered())
     }
 }
 

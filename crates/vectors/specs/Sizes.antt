@@ -2,7 +2,7 @@
 use Prim.Native.Nat.{ℕ}
 
 abbrev pub BLOCK-ROOM : ℕ
-BLOCK-ROOM = 4096
+BLOCK-ROOM = 5120
 
 abbrev pub LABEL-ROOM : ℕ
 LABEL-ROOM = 3200

@@ -15,7 +15,7 @@ ghost use lib.ListN.{length};
 ghost use Rattle.vectors.specs.Sizes.{BLOCK-ROOM, LABEL-ROOM, LINK-ROOM, SPAN-ROOM};
 use service::Reply;
 
-const BLOCK_ROOM: usize = 4096;
+const BLOCK_ROOM: usize = 5120;
 
 const LABEL_ROOM: usize = 3200;
 

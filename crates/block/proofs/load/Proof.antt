@@ -2,9 +2,7 @@
 use mathlib.Core.Path.{sym, ap, _∙_}
 use mathlib.Core.Bool.{true, false}
 use native.Mathlib.Omega.{arith}
-use lib.Seq.{length-take-le}
 use Rattle.terms.specs.Lists.{limits}
-use Rattle.block.specs.Layout.{SIZE}
 use Rattle.block.proofs.Loading.{not-back, too-many-rules, too-many-marks, not-good, held-in, loaded}
 use borrow.Author.Needs.{needs}
 use Rattle.block.proofs.load.Statement.{statement}
@@ -76,20 +74,15 @@ slice-aggregate-store c = search needs
 store-requires : tie.Need-store-requires
 store-requires c κs = search needs
 
-slice-aggregate-same : tie.Need-slice-aggregate-same
-slice-aggregate-same c = search needs
+slice-aggregate-is-copy : tie.Need-slice-aggregate-is-copy
+slice-aggregate-is-copy c = search needs
 
-slice-aggregate-same-2 : tie.Need-slice-aggregate-same-2
-slice-aggregate-same-2 c =
-    let start = c .before .before .before .before .before .before .before .before .before .before .before .before .before .before .before .before in
-    sym (length-take-le SIZE (start .args .block .now) (start .pre))
-
-same-requires : tie.Need-same-requires
-same-requires c κs = search needs
+is-copy-requires : tie.Need-is-copy-requires
+is-copy-requires c κs = (search needs, search needs)
 
 returns-4 : tie.Need-returns-4
 returns-4 c =
-    let laid = c .before .before .before .before in
+    let laid = c .before .before .before in
     let blank = laid .before .before in
     let judged = blank .before .before in
     let set = judged .before in
@@ -102,8 +95,8 @@ returns-4 c =
     loaded b _ (first .u16-at .ensures) (second .u16-at2 .ensures) (rules .load-rules .ensures) (marks .load-marks .ensures) (set .settings-at .ensures)
     (within-limits-requires set tt)
     (sym (judged .within-limits .ensures) ∙ not-back _ false (blank .before .if3 .left))
-    (c .same .result) (laid .store .last .0) (blank .blank .result)
-    (laid .store .ensures) (blank .blank .ensures) (c .same .ensures .0) (c .same .ensures .1)
+    (c .is-copy .result) (laid .store .last .0) (blank .blank .result)
+    (laid .store .ensures) (blank .blank .ensures) (c .is-copy .ensures)
 
 pub load-spec : {M : Type 1} → statement M
 load-spec =
@@ -126,7 +119,6 @@ load-spec =
     blank-requires
     slice-aggregate-store
     store-requires
-    slice-aggregate-same
-    slice-aggregate-same-2
-    same-requires
+    slice-aggregate-is-copy
+    is-copy-requires
     returns-4)

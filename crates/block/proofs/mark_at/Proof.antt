@@ -1,8 +1,7 @@
--- `mark_of` on the four bytes and the depth that `i32_at` reads.
+-- `mark_of` on the four bytes and the ends that `i32_at` reads. Assumes nothing.
 use borrow.Author.Needs.{needs}
-use mathlib.Core.Path.{ap, _∙_}
+use mathlib.Core.Path.{_∙_}
 use Prim.Native.Nat.{_+_}
-use lib.IntN.{ℤ}
 use lib.ListN.{getD}
 use mir.Syntax.{w32}
 use mir.ValLaws.{toZ-ofZ}
@@ -15,6 +14,12 @@ add-i32-at c = search needs
 
 i32-at-requires : tie.Need-i32-at-requires
 i32-at-requires c κs = search needs
+
+add-i32-at-2 : tie.Need-add-i32-at-2
+add-i32-at-2 c = search needs
+
+i32-at-requires-2 : tie.Need-i32-at-requires-2
+i32-at-requires-2 c κs = search needs
 
 shared-slice-read-mark-of : tie.Need-shared-slice-read-mark-of
 shared-slice-read-mark-of c = search needs
@@ -41,12 +46,15 @@ mark-of-requires : tie.Need-mark-of-requires
 mark-of-requires c κs = search needs
 
 returns : tie.Need-returns
-returns c = let a = c .before .before .before .before .before .before .before .args in
+returns c =
+    let bottom = c .before .before .before .before .before in
+    let a = bottom .before .before .before .args in
     let l = a .b .now in
-    let i = c .before .before .before .before .before .i32-at in
-    c .mark-of .ensures
-    ∙ ap (λ (z : ℤ). markOf (getD l (a .at) 0) (getD l (a .at + 1) 0) (getD l (a .at + 2) 0) (getD l (a .at + 3) 0) z)
-    (toZ-ofZ w32 (i .result) (record { sfits = i .ok }) ∙ i .ensures)
+    let t = bottom .before .i32-at in
+    let d = bottom .i32-at2 in
+    let e = toZ-ofZ w32 (t .result) (record { sfits = t .ok }) ∙ t .ensures in
+    let f = toZ-ofZ w32 (d .result) (record { sfits = d .ok }) ∙ d .ensures in
+    c .mark-of .ensures ∙ (λ i. markOf (getD l (a .at) 0) (getD l (a .at + 1) 0) (getD l (a .at + 2) 0) (getD l (a .at + 3) 0) (e i) (f i))
 
 pub mark-at-spec : {M : Type 1} → statement M
 mark-at-spec =
@@ -54,6 +62,8 @@ mark-at-spec =
     (tie.spec
     add-i32-at
     i32-at-requires
+    add-i32-at-2
+    i32-at-requires-2
     shared-slice-read-mark-of
     add-mark-of
     shared-slice-read-mark-of-2

@@ -1,7 +1,6 @@
--- Each arm lays the bytes of its variant.
+-- Each arm lays the bytes of its variant. Assumes nothing.
 use borrow.Author.Needs.{needs}
 use mathlib.Core.Path.{sym, ap, _∙_}
-use lib.IntN.{ℤ}
 use mir.Syntax.{w32}
 use mir.Val.{SFits}
 use mir.ValLaws.{toZ-ofZ}
@@ -27,25 +26,29 @@ same-length : tie.Need-same-length
 same-length c = search needs
 
 returns : tie.Need-returns
-returns c = let s = c .before .before .before .before .before .before .before .before .before in
-    let a = s .args in
-    let g = c .before .before .before .before .before .atom .given in
-    let f : SFits w32 (a .mark .depth) = search needs in
+returns c =
+    let a = c .before .before .before .before .before .before .before .before .before .before .args in
+    let m = a .mark in
+    let given = c .before .before .before .before .before .atom .given in
+    let f : SFits w32 (m .top) = search needs in
+    let g : SFits w32 (m .bottom) = search needs in
     c .before .before .put-mark-place .ensures
-    ∙ ap (λ (z : ℤ). put (a .b .now) (a .at) (markBytesOf 6 (g .0 .0) (g .0 .1 .0) 0 z)) (toZ-ofZ w32 (a .mark .depth) f)
-    ∙ ap (λ (x : Atom). put (a .b .now) (a .at) (atomBytes x (a .mark .depth))) (sym (g .1))
+    ∙ (λ i. put (a .b .now) (a .at) (markBytesOf 6 (given .0 .0) (given .0 .1 .0) 0 (toZ-ofZ w32 (m .top) f i) (toZ-ofZ w32 (m .bottom) g i)))
+    ∙ ap (λ (x : Atom). put (a .b .now) (a .at) (atomBytes x (m .top) (m .bottom))) (sym (given .1))
 
 same-length-2 : tie.Need-same-length-2
 same-length-2 c = search needs
 
 returns-2 : tie.Need-returns-2
-returns-2 c = let s = c .before .before .before .before .before .before .before .before .before in
-    let a = s .args in
-    let g = c .before .before .before .before .before .atom2 .given in
-    let f : SFits w32 (a .mark .depth) = search needs in
+returns-2 c =
+    let a = c .before .before .before .before .before .before .before .before .before .before .args in
+    let m = a .mark in
+    let given = c .before .before .before .before .before .atom2 .given in
+    let f : SFits w32 (m .top) = search needs in
+    let g : SFits w32 (m .bottom) = search needs in
     c .before .before .put-mark-place2 .ensures
-    ∙ ap (λ (z : ℤ). put (a .b .now) (a .at) (markBytesOf 7 (g .0 .0) (g .0 .1 .0) (g .0 .1 .1 .0) z)) (toZ-ofZ w32 (a .mark .depth) f)
-    ∙ ap (λ (x : Atom). put (a .b .now) (a .at) (atomBytes x (a .mark .depth))) (sym (g .1))
+    ∙ (λ i. put (a .b .now) (a .at) (markBytesOf 7 (given .0 .0) (given .0 .1 .0) (given .0 .1 .1 .0) (toZ-ofZ w32 (m .top) f i) (toZ-ofZ w32 (m .bottom) g i)))
+    ∙ ap (λ (x : Atom). put (a .b .now) (a .at) (atomBytes x (m .top) (m .bottom))) (sym (given .1))
 
 pub put-mark-spec : {M : Type 1} → statement M
 put-mark-spec =

@@ -7,7 +7,7 @@ use borrow.Author.Needs.{needs}
 use lib.ListN.{length, take, getD}
 use Rattle.codec.specs.Bytes.{put}
 use Rattle.codec.proofs.Laws.{put-nil}
-use Rattle.block.specs.Layout.{markBytes, cat, MARKS-AT}
+use Rattle.block.specs.Layout.{markBytes, cat, MARK-BYTES, MARKS-AT}
 use Rattle.block.proofs.Tab.{lay-more}
 use Rattle.block.proofs.Sizes.{mark-size}
 use Rattle.block.proofs.store_marks.Statement.{statement}
@@ -54,8 +54,8 @@ loop-again c =
       omega arith,
       p .kept .0 ∙ l .inv .1,
       p .ensures
-          ∙ ap (λ (x : List ℕ). put x (MARKS-AT + 8 * l .i) (markBytes (getD (a .t2) (l .i) _))) (l .inv .2)
-          ∙ lay-more markBytes 8 mark-size (a .b .now) MARKS-AT (a .t2) (omega arith) (l .i) _ (omega arith),
+          ∙ ap (λ (x : List ℕ). put x (MARKS-AT + MARK-BYTES * l .i) (markBytes (getD (a .t2) (l .i) _))) (l .inv .2)
+          ∙ lay-more markBytes MARK-BYTES mark-size (a .b .now) MARKS-AT (a .t2) (omega arith) (l .i) _ (omega arith),
     )
 
 same-length : tie.Need-same-length Inv-loop μ-loop

@@ -7,7 +7,7 @@ use borrow.Author.Needs.{needs}
 use lib.ListN.{length, take, getD}
 use Rattle.codec.specs.Bytes.{put}
 use Rattle.codec.proofs.Laws.{put-nil}
-use Rattle.block.specs.Layout.{cat, HEADER}
+use Rattle.block.specs.Layout.{cat, HEADER, RULE-BYTES}
 use Rattle.block.specs.Places.{placeBytesOf}
 use Rattle.block.proofs.Tab.{lay-more}
 use Rattle.block.proofs.Sizes.{place-size}
@@ -55,8 +55,8 @@ loop-again c =
       omega arith,
       p .kept .0 ∙ l .inv .1,
       p .ensures
-          ∙ ap (λ (x : List ℕ). put x (HEADER + 8 * l .i) (placeBytesOf (getD (a .t2) (l .i) _))) (l .inv .2)
-          ∙ lay-more placeBytesOf 8 place-size (a .b .now) HEADER (a .t2) (omega arith) (l .i) _ (omega arith),
+          ∙ ap (λ (x : List ℕ). put x (HEADER + RULE-BYTES * l .i) (placeBytesOf (getD (a .t2) (l .i) _))) (l .inv .2)
+          ∙ lay-more placeBytesOf RULE-BYTES place-size (a .b .now) HEADER (a .t2) (omega arith) (l .i) _ (omega arith),
     )
 
 same-length : tie.Need-same-length Inv-loop μ-loop

@@ -22,6 +22,9 @@ slot-of-requires c κs = search needs
 slot-inside : (c : tie.After-slot-of) → c .slot-of .result < SLOTS
 slot-inside c = rw (c .slot-of .ensures) (slot-in _)
 
+mul-said : tie.Need-mul-said
+mul-said c = omega (arith, slot-inside c)
+
 element-copy-out-said : tie.Need-element-copy-out-said
 element-copy-out-said c = slot-inside c
 
@@ -32,6 +35,9 @@ cast-said c =
 
 cast-slots : tie.Need-cast-slots
 cast-slots c = search needs
+
+mul-slots : tie.Need-mul-slots
+mul-slots c = omega (arith, slot-inside (c .before))
 
 element-write-slots : tie.Need-element-write-slots
 element-write-slots c = slot-inside (c .before)
@@ -72,9 +78,11 @@ last-of-spec =
     mul-key
     shared-slice-read-key
     slot-of-requires
+    mul-said
     element-copy-out-said
     cast-said
     cast-slots
+    mul-slots
     element-write-slots
     add-is-met
     is-met-requires

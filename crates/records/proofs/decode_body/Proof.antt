@@ -1,9 +1,10 @@
 -- Each arm is the row of its kind, and the kind gives the body's length. Assumes nothing.
 use lib.ListN.{length}
-use mathlib.Core.Path.{ap}
+use mathlib.Core.Path.{ap, _∙_}
 use native.Mathlib.Omega.{arith}
+use borrow.Author.Needs.{needs}
 use borrow.Author.Tests.{ne-eqb}
-use Rattle.records.specs.Records.{bodyTests, commandIn}
+use Rattle.records.specs.Records.{asPut, asTake, bodyTests, commandIn}
 use Rattle.records.specs.Formats.{lengthsOf}
 use Rattle.records.proofs.Laws.{sized}
 use Rattle.records.proofs.decode_body.Statement.{statement}
@@ -33,29 +34,41 @@ via-rule-requires c κs =
     let start = c .before .before in
     omega (arith, sized (length (start .args .body .now)) (start .args .kind) 5 (start .pre) (ap lengthsOf (c .match .keys5)))
 
-put-label-requires : tie.Need-put-label-requires
+label-mark-requires : tie.Need-label-mark-requires
 unfolding lengthsOf
-put-label-requires c κs =
+label-mark-requires c κs =
     let start = c .before .before in
     omega (arith, sized (length (start .args .body .now)) (start .args .kind) 8 (start .pre) (ap lengthsOf (c .match .keys6)))
 
-put-link-requires : tie.Need-put-link-requires
+put-requires : tie.Need-put-requires
+put-requires c κs = search needs
+
+link-mark-requires : tie.Need-link-mark-requires
 unfolding lengthsOf
-put-link-requires c κs =
+link-mark-requires c κs =
     let start = c .before .before in
     omega (arith, sized (length (start .args .body .now)) (start .args .kind) 9 (start .pre) (ap lengthsOf (c .match .keys7)))
 
-take-label-requires : tie.Need-take-label-requires
+put-requires-2 : tie.Need-put-requires-2
+put-requires-2 c κs = search needs
+
+label-mark-requires-2 : tie.Need-label-mark-requires-2
 unfolding lengthsOf
-take-label-requires c κs =
+label-mark-requires-2 c κs =
     let start = c .before .before in
     omega (arith, sized (length (start .args .body .now)) (start .args .kind) 8 (start .pre) (ap lengthsOf (c .match .keys8)))
 
-take-link-requires : tie.Need-take-link-requires
+take-requires : tie.Need-take-requires
+take-requires c κs = search needs
+
+link-mark-requires-2 : tie.Need-link-mark-requires-2
 unfolding lengthsOf
-take-link-requires c κs =
+link-mark-requires-2 c κs =
     let start = c .before .before in
     omega (arith, sized (length (start .args .body .now)) (start .args .kind) 9 (start .pre) (ap lengthsOf (c .match .keys9)))
+
+take-requires-2 : tie.Need-take-requires-2
+take-requires-2 c κs = search needs
 
 ask-label-requires : tie.Need-ask-label-requires
 unfolding lengthsOf
@@ -74,6 +87,42 @@ unfolding lengthsOf
 ask-spans-requires c κs =
     let start = c .before .before in
     omega (arith, sized (length (start .args .body .now)) (start .args .kind) 4 (start .pre) (ap lengthsOf (c .match .keys12)))
+
+label-stretch-requires : tie.Need-label-stretch-requires
+unfolding lengthsOf
+label-stretch-requires c κs =
+    let start = c .before .before in
+    omega (arith, sized (length (start .args .body .now)) (start .args .kind) 12 (start .pre) (ap lengthsOf (c .match .keys13)))
+
+put-requires-3 : tie.Need-put-requires-3
+put-requires-3 c κs = search needs
+
+link-stretch-requires : tie.Need-link-stretch-requires
+unfolding lengthsOf
+link-stretch-requires c κs =
+    let start = c .before .before in
+    omega (arith, sized (length (start .args .body .now)) (start .args .kind) 13 (start .pre) (ap lengthsOf (c .match .keys14)))
+
+put-requires-4 : tie.Need-put-requires-4
+put-requires-4 c κs = search needs
+
+label-stretch-requires-2 : tie.Need-label-stretch-requires-2
+unfolding lengthsOf
+label-stretch-requires-2 c κs =
+    let start = c .before .before in
+    omega (arith, sized (length (start .args .body .now)) (start .args .kind) 12 (start .pre) (ap lengthsOf (c .match .keys15)))
+
+take-requires-3 : tie.Need-take-requires-3
+take-requires-3 c κs = search needs
+
+link-stretch-requires-2 : tie.Need-link-stretch-requires-2
+unfolding lengthsOf
+link-stretch-requires-2 c κs =
+    let start = c .before .before in
+    omega (arith, sized (length (start .args .body .now)) (start .args .kind) 13 (start .pre) (ap lengthsOf (c .match .keys16)))
+
+take-requires-4 : tie.Need-take-requires-4
+take-requires-4 c κs = search needs
 
 returns : tie.Need-returns
 unfolding bodyTests commandIn
@@ -97,19 +146,27 @@ returns-5 c = simp (c .before .match .keys5) (c .via-rule .ensures)
 
 returns-6 : tie.Need-returns-6
 unfolding bodyTests commandIn
-returns-6 c = simp (c .before .match .keys6) (c .put-label .ensures)
+returns-6 c =
+    let match = c .before .before in
+    simp (match .match .keys6) (c .put .ensures ∙ ap (asPut (match .before .before .args .settings)) (c .before .label-mark .ensures))
 
 returns-7 : tie.Need-returns-7
 unfolding bodyTests commandIn
-returns-7 c = simp (c .before .match .keys7) (c .put-link .ensures)
+returns-7 c =
+    let match = c .before .before in
+    simp (match .match .keys7) (c .put2 .ensures ∙ ap (asPut (match .before .before .args .settings)) (c .before .link-mark .ensures))
 
 returns-8 : tie.Need-returns-8
 unfolding bodyTests commandIn
-returns-8 c = simp (c .before .match .keys8) (c .take-label .ensures)
+returns-8 c =
+    let match = c .before .before in
+    simp (match .match .keys8) (c .take .ensures ∙ ap (asTake (match .before .before .args .settings)) (c .before .label-mark2 .ensures))
 
 returns-9 : tie.Need-returns-9
 unfolding bodyTests commandIn
-returns-9 c = simp (c .before .match .keys9) (c .take-link .ensures)
+returns-9 c =
+    let match = c .before .before in
+    simp (match .match .keys9) (c .take2 .ensures ∙ ap (asTake (match .before .before .args .settings)) (c .before .link-mark2 .ensures))
 
 returns-10 : tie.Need-returns-10
 unfolding bodyTests commandIn
@@ -124,10 +181,38 @@ unfolding bodyTests commandIn
 returns-12 c = simp (c .before .match .keys12) (c .ask-spans .ensures)
 
 returns-13 : tie.Need-returns-13
-unfolding lengthsOf
+unfolding bodyTests commandIn
 returns-13 c =
+    let match = c .before .before in
+    simp (match .match .keys13) (c .put3 .ensures ∙ ap (asPut (match .before .before .args .settings)) (c .before .label-stretch .ensures))
+
+returns-14 : tie.Need-returns-14
+unfolding bodyTests commandIn
+returns-14 c =
+    let match = c .before .before in
+    simp (match .match .keys14) (c .put4 .ensures ∙ ap (asPut (match .before .before .args .settings)) (c .before .link-stretch .ensures))
+
+returns-15 : tie.Need-returns-15
+unfolding bodyTests commandIn
+returns-15 c =
+    let match = c .before .before in
+    simp (match .match .keys15) (c .take3 .ensures ∙ ap (asTake (match .before .before .args .settings)) (c .before .label-stretch2 .ensures))
+
+returns-16 : tie.Need-returns-16
+unfolding bodyTests commandIn
+returns-16 c =
+    let match = c .before .before in
+    simp (match .match .keys16) (c .take4 .ensures ∙ ap (asTake (match .before .before .args .settings)) (c .before .link-stretch2 .ensures))
+
+returns-17 : tie.Need-returns-17
+unfolding lengthsOf
+returns-17 c =
     let m = c .match .rest in
     absurd (simp (
+      ne-eqb _ _ (m .0 .0 .0 .0 .0 .0 .0 .0 .0 .0 .0 .0 .0 .0 .0 .1),
+      ne-eqb _ _ (m .0 .0 .0 .0 .0 .0 .0 .0 .0 .0 .0 .0 .0 .0 .1),
+      ne-eqb _ _ (m .0 .0 .0 .0 .0 .0 .0 .0 .0 .0 .0 .0 .0 .1),
+      ne-eqb _ _ (m .0 .0 .0 .0 .0 .0 .0 .0 .0 .0 .0 .0 .1),
       ne-eqb _ _ (m .0 .0 .0 .0 .0 .0 .0 .0 .0 .0 .0 .1),
       ne-eqb _ _ (m .0 .0 .0 .0 .0 .0 .0 .0 .0 .0 .1),
       ne-eqb _ _ (m .0 .0 .0 .0 .0 .0 .0 .0 .0 .1),
@@ -150,13 +235,25 @@ decode-body-spec =
     both-rule-requires
     link-rule-requires
     via-rule-requires
-    put-label-requires
-    put-link-requires
-    take-label-requires
-    take-link-requires
+    label-mark-requires
+    put-requires
+    link-mark-requires
+    put-requires-2
+    label-mark-requires-2
+    take-requires
+    link-mark-requires-2
+    take-requires-2
     ask-label-requires
     ask-link-requires
     ask-spans-requires
+    label-stretch-requires
+    put-requires-3
+    link-stretch-requires
+    put-requires-4
+    label-stretch-requires-2
+    take-requires-3
+    link-stretch-requires-2
+    take-requires-4
     returns
     returns-2
     returns-3
@@ -169,4 +266,8 @@ decode-body-spec =
     returns-10
     returns-11
     returns-12
-    returns-13)
+    returns-13
+    returns-14
+    returns-15
+    returns-16
+    returns-17)

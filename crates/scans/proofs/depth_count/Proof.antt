@@ -1,5 +1,6 @@
--- The distinct keys of the first marks.
+-- The distinct keys of the ends of the first marks.
 use mathlib.Core.Path.{sym, _∙_}
+use Prim.Native.Nat.{_*_}
 use native.Mathlib.Omega.{arith}
 use lib.Seq.{length-take-le}
 use Rattle.keys.proofs.Scan.{take-few}
@@ -11,6 +12,9 @@ use Rattle.scans.proofs.depth_count.Tie as tie
 depth-keys-requires : tie.Need-depth-keys-requires
 depth-keys-requires c κs = search needs
 
+mul-ends : tie.Need-mul-ends
+mul-ends c = search needs
+
 array-share-prefix-keys : tie.Need-array-share-prefix-keys
 array-share-prefix-keys c = search needs
 
@@ -18,7 +22,7 @@ slice-aggregate-distinct-keys : tie.Need-slice-aggregate-distinct-keys
 slice-aggregate-distinct-keys c = sym (length-take-le _ _ (omega arith))
 
 distinct-keys-requires : tie.Need-distinct-keys-requires
-distinct-keys-requires c κs = take-few _ (c .before .before .args .count) 256 (omega arith)
+distinct-keys-requires c κs = take-few _ (2 * c .before .before .args .count) 512 (omega arith)
 
 returns : tie.Need-returns
 returns c =
@@ -30,6 +34,7 @@ depth-count-spec =
     tie.close
     (tie.spec
     depth-keys-requires
+    mul-ends
     array-share-prefix-keys
     slice-aggregate-distinct-keys
     distinct-keys-requires

@@ -1,8 +1,7 @@
 -- The depth fits its bits.
 use mathlib.Core.Path.{ap, _∙_}
-use native.Mathlib.Omega.{arith}
 use mir.Syntax.{w32}
-use mir.Val.{SFits, ofZ}
+use mir.Val.{ofZ}
 use mir.ValLaws.{toZ-ofZ}
 use borrow.Author.Needs.{needs}
 use Rattle.scans.proofs.depth_key.Statement.{statement}
@@ -16,9 +15,9 @@ cast-result c = search needs
 
 returns : tie.Need-returns
 returns c =
-    let m = c .before .before .args .mark in
-    let f : SFits w32 (m .depth) = record { sfits = omega arith } in
-    record { is = c .bits32 .ensures ∙ ap (ofZ w32) (toZ-ofZ w32 (m .depth) f); fits = record { depth = f } }
+    let start = c .before in
+    let f = start .fits .depth in
+    record { is = c .bits32 .ensures ∙ ap (ofZ w32) (toZ-ofZ w32 (start .args .depth) f); fits = f }
 
 pub depth-key-spec : {M : Type 1} → statement M
 depth-key-spec = tie.close (tie.spec bits32-requires cast-result returns)

@@ -1,60 +1,71 @@
--- By the atom: the fields of the arm are those of the mark, each a byte, and the depth fits its bits.
+-- The numbers of the parts fit, and are those of the definition.
 use mathlib.Core.Path.{ap, _∙_}
+use Prim.Native.Nat.{_<_}
 use native.Mathlib.Omega.{arith}
 use mir.Syntax.{w32}
-use mir.Val.{SFits, ofZ}
 use mir.ValLaws.{toZ-ofZ}
+use Rattle.scans.specs.Keys.{END-ROOM, endNumber, markKey}
+use Rattle.scans.proofs.Exact.{end-small}
 use borrow.Author.Needs.{needs}
 use Rattle.scans.proofs.mark_key.Statement.{statement}
 use Rattle.scans.proofs.mark_key.Tie as tie
 
-bits32-requires : tie.Need-bits32-requires
-bits32-requires c κs = search needs
+atom-number-requires : tie.Need-atom-number-requires
+atom-number-requires c κs = search needs
 
-enum-known-atom : tie.Need-enum-known-atom
-enum-known-atom c = search needs
+cast-number : tie.Need-cast-number
+cast-number c = search needs
 
-pack-requires : tie.Need-pack-requires
-pack-requires c κs = search needs
+end-number-requires : tie.Need-end-number-requires
+end-number-requires c κs = search needs
 
-enum-known-atom-2 : tie.Need-enum-known-atom-2
-enum-known-atom-2 c = search needs
+end-number-requires-2 : tie.Need-end-number-requires-2
+end-number-requires-2 c κs = search needs
 
-pack-requires-2 : tie.Need-pack-requires-2
-pack-requires-2 c κs = search needs
+top-small : (c : tie.After-end-number2) → c .before .before .end-number .result < END-ROOM
+top-small c = rw (c .before .before .end-number .ensures) (end-small _)
+
+bottom-small : (c : tie.After-end-number2) → c .end-number2 .result < END-ROOM
+bottom-small c = rw (c .end-number2 .ensures) (end-small _)
+
+mul-result : tie.Need-mul-result
+mul-result c = omega (arith, bottom-small c)
+
+add-result : tie.Need-add-result
+add-result c = omega (arith, top-small c, bottom-small c)
+
+mul-result-2 : tie.Need-mul-result-2
+mul-result-2 c = omega (arith, top-small c, bottom-small c)
+
+add-result-2 : tie.Need-add-result-2
+add-result-2 c = omega (arith, top-small c, bottom-small c)
 
 returns : tie.Need-returns
+unfolding markKey
 returns c =
-    let g = c .before .before .atom .given in
-    let m = c .before .before .before .before .before .before .args .mark in
-    let f : SFits w32 (m .depth) = record { sfits = omega arith } in
-    let d = ap (ofZ w32) (toZ-ofZ w32 (m .depth) f) in
-    let n = c .before .before .before .before .bits32 .ensures ∙ d in
+    let start = c .before .before .before .before .before in
+    let m = start .args .mark in
+    let t = toZ-ofZ w32 (m .top) (record { sfits = omega arith }) in
+    let b = toZ-ofZ w32 (m .bottom) (record { sfits = omega arith }) in
     record {
-      is = rw (g .1) (rw n at (c .pack .ensures));
-      fits = record { atom = rw (g .1) (record { first = omega arith; second = omega arith; third = omega arith }); depth = f };
-    }
-
-returns-2 : tie.Need-returns-2
-returns-2 c =
-    let g = c .before .before .atom2 .given in
-    let m = c .before .before .before .before .before .before .args .mark in
-    let f : SFits w32 (m .depth) = record { sfits = omega arith } in
-    let d = ap (ofZ w32) (toZ-ofZ w32 (m .depth) f) in
-    let n = c .before .before .before .before .bits32 .ensures ∙ d in
-    record {
-      is = rw (g .1) (rw n at (c .pack2 .ensures));
-      fits = record { atom = rw (g .1) (record { first = omega arith; second = omega arith; third = omega arith }); depth = f };
+      is = rw (
+        c .before .before .before .before .atom-number .ensures,
+        c .before .before .end-number .ensures ∙ ap endNumber t,
+        c .end-number2 .ensures ∙ ap endNumber b,
+      );
+      fits = start .pre;
     }
 
 pub mark-key-spec : {M : Type 1} → statement M
 mark-key-spec =
     tie.close
     (tie.spec
-    bits32-requires
-    enum-known-atom
-    pack-requires
-    enum-known-atom-2
-    pack-requires-2
-    returns
-    returns-2)
+    atom-number-requires
+    cast-number
+    end-number-requires
+    end-number-requires-2
+    mul-result
+    add-result
+    mul-result-2
+    add-result-2
+    returns)

@@ -2,10 +2,10 @@
 use mathlib.Core.Path.{_≡_, refl}
 use Prim.Native.Nat.{_-_, _≤_, _<_}
 use native.Mathlib.Omega.{arith}
-use borrow.Author.Needs.{needs}
 use lib.ListN.{length, take, length-set}
 use Rattle.scans.specs.Keys.{markKey, MarkFits, Keys-of}
-use Rattle.keys.proofs.Scan.{length-of-map, take-more}
+use Rattle.keys.proofs.Scan.{take-more}
+use Rattle.terms.specs.Ends.{mark-named}
 use Rattle.scans.proofs.Keyed.{keys-none, keys-more}
 use Rattle.scans.proofs.mark_keys.Statement.{statement}
 use Rattle.scans.proofs.mark_keys.Tie as tie
@@ -26,7 +26,9 @@ array-copy-out-mark : tie.Need-array-copy-out-mark Inv-loop μ-loop
 array-copy-out-mark c = omega arith
 
 mark-key-requires : tie.Need-mark-key-requires Inv-loop μ-loop
-mark-key-requires c κs = tt
+mark-key-requires c κs =
+    let start = c .before .before .before in
+    mark-named (start .args .t1) (start .args .count) (c .before .before .loop .i) _ (start .pre) (c .before .loop-test .taken)
 
 mul-keys : tie.Need-mul-keys Inv-loop μ-loop
 mul-keys c = omega arith
@@ -40,15 +42,12 @@ add-i c = omega arith
 loop-less : tie.Need-loop-less Inv-loop μ-loop
 loop-less c = omega arith
 
-sizes : (c : tie.Start Inv-loop μ-loop) → length (c .args .t1) ≡ 256
-sizes c = search (needs, length-of-map)
-
 loop-again : tie.Need-loop-again Inv-loop μ-loop
 loop-again c =
     let s = c .before .before .before .before in
     let l = c .before .before .before .loop in
     let t = c .before .before .loop-test .taken in
-    let n = sizes s in
+    let n = s .pre .size in
     let h : l .i < length (s .args .t1) = omega arith in (
       omega arith,
       simp length-set (l .inv .1),

@@ -21,7 +21,7 @@ slice-aggregate-once-keys : tie.Need-slice-aggregate-once-keys
 slice-aggregate-once-keys c = sym (length-take-le _ _ (omega arith))
 
 once-keys-requires : tie.Need-once-keys-requires
-once-keys-requires c κs = take-few _ (c .before .before .args .count) 256 (omega arith)
+once-keys-requires c κs = take-few _ (c .before .before .args .count) 512 (omega arith)
 
 returns : tie.Need-returns
 returns c =

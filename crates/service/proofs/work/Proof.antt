@@ -9,6 +9,7 @@ use Rattle.state.specs.Holding.{fresh-holds}
 use Rattle.block.specs.Layout.{SIZE, encode}
 use Rattle.records.specs.declared.Command.{Command}
 use Rattle.records.specs.Proper.{Proper}
+use Rattle.service.proofs.Given.{named}
 use Rattle.service.proofs.Lending.{parts, changed, questioned, as-command}
 use borrow.Author.Needs.{needs}
 use Rattle.service.proofs.work.Statement.{statement}
@@ -41,7 +42,11 @@ enum-known-command-2 : tie.Need-enum-known-command-2
 enum-known-command-2 c = search needs
 
 put-requires : tie.Need-put-requires
-put-requires c κs = search needs
+put-requires c κs =
+    let start = c .before .before .before .before .before .before .before .before in (
+      start .pre .0 .counts,
+      (named (start .args .state) (start .pre .0), subst (λ (x : Command). T (Proper x)) (c .before .before .command2 .given .1) (start .pre .1)),
+    )
 
 keep-requires-2 : tie.Need-keep-requires-2
 keep-requires-2 c κs = search needs
@@ -50,7 +55,11 @@ enum-known-command-3 : tie.Need-enum-known-command-3
 enum-known-command-3 c = search needs
 
 take-requires : tie.Need-take-requires
-take-requires c κs = search needs
+take-requires c κs =
+    let start = c .before .before .before .before .before .before .before .before in (
+      start .pre .0 .counts,
+      (named (start .args .state) (start .pre .0), subst (λ (x : Command). T (Proper x)) (c .before .before .command3 .given .1) (start .pre .1)),
+    )
 
 keep-requires-3 : tie.Need-keep-requires-3
 keep-requires-3 c κs = search needs

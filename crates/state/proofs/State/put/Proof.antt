@@ -20,7 +20,7 @@ add-mark-requires c κs =
     let s = start .args .self in
     let n = length-take-le (s .«mark_count») (s .marks) (omega arith) in
     let room = put-room (heldOf s) (start .args .mark) (sym (c .before .before .put-tested .ensures) ∙ c .enum-told .given .1) in
-    (start .pre, omega (arith, room))
+    (start .pre .0, omega (arith, room))
 
 enum-told-2 : tie.Need-enum-told-2
 enum-told-2 c = search needs
@@ -30,7 +30,8 @@ returns c = accepted-as _ _ _ _ _ (c .before .before .before .put-tested .ensure
 
 returns-2 : tie.Need-returns-2
 returns-2 c =
-    refused-as _ _ _ _ _ (c .before .before .put-tested .ensures) _ (c .enum-told2 .given .1) (record { held = refl; counts = c .before .before .before .pre })
+    let start = c .before .before .before in
+    refused-as _ _ _ _ _ (c .before .before .put-tested .ensures) _ (c .enum-told2 .given .1) (record { held = refl; counts = start .pre .0 })
 
 pub put-spec : {M : Type 1} → statement M
 put-spec =

@@ -1,13 +1,16 @@
 -- By the tests, in the order of their numbers.
-use mathlib.Core.Path.{_≡_, sym, _∙_}
+use mathlib.Core.Path.{_≡_, sym, ap, _∙_}
 use mathlib.Core.Bool.{false}
+use mathlib.Core.List.{List, [], _∷_, _++_}
 use native.Mathlib.Omega.{arith}
-use borrow.Author.Tests.{le-leb, lt-leb}
+use borrow.Author.Tests.{le-leb, lt-leb, lt-ltb, le-ltb}
 use lib.ListN.{length, take}
 use lib.Seq.{length-take-le}
+use Rattle.terms.specs.declared.Mark.{Mark}
+use Rattle.terms.specs.Held.{endsOf}
 use Rattle.terms.specs.Same.{sameMark}
-use Rattle.terms.specs.Lists.{some}
-use Rattle.keys.proofs.Scan.{found, missing}
+use Rattle.terms.specs.Lists.{some, depthCount}
+use Rattle.keys.proofs.Scan.{found, missing, take-more-set}
 use borrow.Author.Needs.{needs}
 use Rattle.state.proofs.State.put_tested.Statement.{statement}
 use Rattle.state.proofs.State.put_tested.Tie as tie
@@ -37,49 +40,49 @@ returns-2 c =
     let s = c .before .before .before .before .args .self in
     sym (rw (none (c .before), count (c .before .before .before .before), le-leb 256 (s .«mark_count») (c .if2 .taken)))
 
-has-depth-requires : tie.Need-has-depth-requires
-has-depth-requires c κs = search needs
+mul-with-mark : tie.Need-mul-with-mark
+mul-with-mark c = search needs
 
-returns-3 : tie.Need-returns-3
-returns-3 c =
-    let start = c .before .before .before .before .before .before in
-    let s = start .args .self in
-    sym (rw (
-      none (c .before .before .before),
-      count start,
-      lt-leb 256 (s .«mark_count») (c .before .before .if2 .left),
-      sym (c .before .has-depth .ensures) ∙ c .if3 .taken,
-    ))
+array-set-from-with-mark : tie.Need-array-set-from-with-mark
+array-set-from-with-mark c = search needs
+
+add-depth-count : tie.Need-add-depth-count
+add-depth-count c = search needs
 
 depth-count-requires : tie.Need-depth-count-requires
 depth-count-requires c κs = search needs
 
-returns-4 : tie.Need-returns-4
-returns-4 c =
-    let start = c .before .before .before .before .before in
-    let from-start = start .before .before .before in
-    let s = from-start .args .self in
+-- the ends that were counted
+ends : (c : tie.After-depth-count) →
+    let a = c .before .before .before .before .before .args in
+    depthCount (endsOf (take (a .self .«mark_count») (a .self .marks) ++ (a .mark ∷ []))) ≡ c .depth-count .result
+ends c =
+    let a = c .before .before .before .before .before .args in
+    let put = take-more-set (a .self .marks) (a .self .«mark_count») (a .mark) (omega arith) in
+    sym (c .depth-count .ensures ∙ ap (λ (ms : List Mark). depthCount (endsOf ms)) put)
+
+returns-3 : tie.Need-returns-3
+returns-3 c =
+    let full = c .before .before in
+    let start = full .before .before .before .before in
     sym (rw (
-      none start,
-      count from-start,
-      lt-leb 256 (s .«mark_count») (c .before .before .before .before .if2 .left),
-      sym (c .before .before .before .has-depth .ensures) ∙ c .before .before .if3 .left,
-      sym (c .before .depth-count .ensures),
-      le-leb 96 _ (c .if4 .taken),
+      none (full .before),
+      count start,
+      lt-leb 256 (start .args .self .«mark_count») (full .if2 .left),
+      ends (c .before),
+      lt-ltb 96 (c .before .depth-count .result) (c .if3 .taken),
     ))
 
-returns-5 : tie.Need-returns-5
-returns-5 c =
-    let start = c .before .before .before .before .before in
-    let from-start = start .before .before .before in
-    let s = from-start .args .self in
+returns-4 : tie.Need-returns-4
+returns-4 c =
+    let full = c .before .before in
+    let start = full .before .before .before .before in
     sym (rw (
-      none start,
-      count from-start,
-      lt-leb 256 (s .«mark_count») (c .before .before .before .before .if2 .left),
-      sym (c .before .before .before .has-depth .ensures) ∙ c .before .before .if3 .left,
-      sym (c .before .depth-count .ensures),
-      lt-leb 96 _ (c .if4 .left),
+      none (full .before),
+      count start,
+      lt-leb 256 (start .args .self .«mark_count») (full .if2 .left),
+      ends (c .before),
+      le-ltb 96 (c .before .depth-count .result) (c .if3 .left),
     ))
 
 pub put-tested-spec : {M : Type 1} → statement M
@@ -89,8 +92,9 @@ put-tested-spec =
     mark-index-requires
     returns
     returns-2
-    has-depth-requires
-    returns-3
+    mul-with-mark
+    array-set-from-with-mark
+    add-depth-count
     depth-count-requires
-    returns-4
-    returns-5)
+    returns-3
+    returns-4)

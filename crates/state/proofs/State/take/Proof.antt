@@ -35,7 +35,7 @@ returns c =
     let start = c .before .before .before .before in
     let s = start .args .self in
     let m = start .args .mark in
-    let p = start .pre in
+    let p = start .pre .0 in
     let q = c .before .before .mark-index in
     let xs = take (s .«mark_count») (s .marks) in
     let f = found (sameMark m) xs (s .«mark_count») (q .result) (count start) (q .ensures) (c .before .if1 .taken) in
@@ -57,7 +57,7 @@ returns-2 c =
     let m = start .args .mark in
     let q = c .before .mark-index in
     let f = missing (sameMark m) (take (s .«mark_count») (s .marks)) (s .«mark_count») (q .result) (count start) (q .ensures) (c .if1 .left) in
-    refused-as _ _ _ (Tested.Refused 10) _ (sym (rw f)) 10 refl (record { held = refl; counts = start .pre })
+    refused-as _ _ _ (Tested.Refused 10) _ (sym (rw f)) 10 refl (record { held = refl; counts = start .pre .0 })
 
 pub take-spec : {M : Type 1} → statement M
 take-spec = tie.close (tie.spec mark-index-requires without-requires sub-state returns returns-2)

@@ -1,4 +1,4 @@
--- The cases that 01 marks P are decided as it says: one theorem, about the definition by interpretations over all integers. Assumes nothing.
+-- The cases that 01 marks P are decided as it says, and 02's beside them: one theorem, about the definition by interpretations over all integers. Assumes nothing.
 use mathlib.Core.Path.{_≡_, refl, sym, subst}
 use mathlib.Core.Logic.{⊎-elim}
 use mathlib.Core.Bool.{Bool}
@@ -6,14 +6,14 @@ use mathlib.Core.List.{List, [], _∷_, map, List·Memᴰ·cases-cons, List·Mem
 use lib.Dec.{T}
 use Rattle.terms.specs.Tests.{and-both}
 use Rattle.terms.specs.Held.{_∈_}
-use Rattle.terms.specs.Lists.{some, every, once, depthCount, limits}
+use Rattle.terms.specs.Lists.{some, every, once, strike, depthCount, limits}
 use Rattle.tables.specs.Executed.{model}
 use Rattle.spans.specs.Runs.{runs}
 use Rattle.terms.specs.Limited.{limited, in-range}
 use Rattle.decide.specs.Decide.{answer-decides}
 use Rattle.decide.specs.Answer.{answer}
 use Rattle.decide.specs.Decides.{Reply, Decides}
-use Rattle.decide.specs.Cases.{Case, cases}
+use Rattle.cases.specs.Cases.{Case, cases}
 
 -- ---- computed, and so decided
 
@@ -31,7 +31,7 @@ pub record Checked (cs : List Case) : Type 0 where
   pub same : map computed cs ≡ map expected cs
 
 checked : Checked cases
-unfolding limits every once some depthCount answer model runs
+unfolding limits every once some strike depthCount answer model runs
 checked = record { kept = tt; same = refl }
 
 each : (cs : List Case) → Checked cs → (c : Case) → c ∈ cs → Decides (c .held) (c .question) (c .reply)

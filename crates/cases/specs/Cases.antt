@@ -1,0 +1,124 @@
+-- The cases that 01 marks P, and 02's beside them: one table.
+use mathlib.Core.List.{List, [], _∷_, _++_}
+use Prim.Native.Nat.{ℕ, zero, suc}
+use lib.IntN.{ℤ, pos, negsuc}
+use Rattle.terms.specs.declared.Operator.{Operator}
+use Rattle.terms.specs.declared.Operator.the-variants.{Within, Between, Above, Below, Anywhere}
+use Rattle.terms.specs.declared.Rule.{Rule}
+use Rattle.terms.specs.declared.Rule.the-variants.{Label, Both, Via}
+use Rattle.terms.specs.declared.Atom.the-variants.{Has, Linked}
+use Rattle.terms.specs.declared.Mark.{Mark}
+use Rattle.terms.specs.Limits.{ITEMS, EVERY, NEVER, NO-TOP, NO-BOTTOM}
+use Rattle.terms.specs.declared.Question.{Question}
+use Rattle.terms.specs.declared.Question.the-variants as Question
+use Rattle.terms.specs.Held.{Held, freshSettings}
+use Rattle.terms.specs.Lists.{strike}
+use Rattle.terms.specs.Same.{sameMark}
+use Rattle.terms.specs.Spans.{Run, run}
+use Rattle.decide.specs.Decides.{Yes, No, Spans, Reply, Contradiction, Answered}
+
+-- a row: what is held, what is asked, and the reply that 01 gives
+pub record Case : Type 0 where
+  pub held : Held
+  pub question : Question
+  pub reply : Reply
+
+abbrev pub on : List Rule → List Mark → Question → Reply → Case
+on rs ms q r = record { held = record { rules = rs; marks = ms; settings = freshSettings }; question = q; reply = r }
+
+abbrev pub label : ℕ → ℕ → ℤ → Mark
+label a A i = record { atom = Has a A; top = i; bottom = i }
+
+abbrev pub link : ℕ → ℕ → ℕ → ℤ → Mark
+link a r b i = record { atom = Linked a r b; top = i; bottom = i }
+
+abbrev pub four : List Mark
+four = label 0 1 (negsuc 2) ∷ label 0 1 (negsuc 1) ∷ label 0 1 (pos 0) ∷ label 0 1 (pos 4) ∷ []
+
+abbrev pub two : List Mark
+two = label 0 1 (pos 104) ∷ label 0 1 (pos 123) ∷ []
+
+-- an operator on a set of depths, asked as spans, so that the row speaks of every integer
+abbrev pub gives : Operator → List Mark → List Run → Case
+gives o ms rs = on (Label o 1 2 ∷ []) ms (Question.Spans 0 2) (Answered (Spans rs))
+
+abbrev pub contrary : List Rule
+contrary = Label (Within 1) EVERY 1 ∷ Label (Within 1) 1 NEVER ∷ []
+
+-- no marks, no rules: EVERY yes and label 1 no, of each item below n
+abbrev pub nothing : ℕ → List Case
+nothing zero = []
+nothing (suc a) =
+    on [] [] (Question.Holds (Has a EVERY) (pos 0)) (Answered Yes)
+    ∷ on [] [] (Question.Spans a EVERY) (Answered (Spans (run NO-TOP NO-BOTTOM ∷ [])))
+    ∷ on [] [] (Question.Holds (Has a 1) (pos 0)) (Answered No)
+    ∷ on [] [] (Question.Spans a 1) (Answered (Spans []))
+    ∷ nothing a
+
+-- link 0 from 0 to 1 at 10 and VIA 0 2 to 3, with label 2 on item 1 at this depth
+abbrev pub joined : ℤ → Question → Reply → Case
+joined i = on (Via 0 2 3 ∷ []) (link 0 0 1 (pos 10) ∷ label 1 2 i ∷ [])
+
+-- label A of item 0 from t to b
+abbrev pub stretch : ℕ → ℕ → ℕ → Mark
+stretch A t b = record { atom = Has 0 A; top = pos t; bottom = pos b }
+
+-- a stretch and a point below it
+abbrev pub caliper : List Mark
+caliper = stretch 1 100 110 ∷ label 0 1 (pos 120) ∷ []
+
+-- what item 0 has of label 1, and whether at this depth
+abbrev pub has-runs : List Mark → List Run → Case
+has-runs ms rs = on [] ms (Question.Spans 0 1) (Answered (Spans rs))
+
+abbrev pub has-at : List Mark → ℕ → Reply → Case
+has-at ms i = on [] ms (Question.Holds (Has 0 1) (pos i))
+
+-- 02, Slip 2: a stretch and a point under each operator; inside a stretch and at its ends; stretches that overlap, touch, lie a depth apart,
+-- nest; a stretch across 0; a stretch of a link; one of two that share an end, taken
+abbrev pub stretches : List Case
+stretches =
+    gives (Within 1) caliper (run (pos 100) (pos 110) ∷ run (pos 120) (pos 120) ∷ [])
+    ∷ gives (Within 10) caliper (run (pos 100) (pos 110) ∷ run (pos 120) (pos 120) ∷ [])
+    ∷ gives (Within 11) caliper (run (pos 100) (pos 120) ∷ [])
+    ∷ gives Between caliper (run (pos 100) (pos 120) ∷ [])
+    ∷ gives Above caliper (run NO-TOP (pos 120) ∷ [])
+    ∷ gives Below caliper (run (pos 100) NO-BOTTOM ∷ [])
+    ∷ gives Anywhere caliper (run NO-TOP NO-BOTTOM ∷ [])
+    ∷ has-runs caliper (run (pos 100) (pos 110) ∷ run (pos 120) (pos 120) ∷ [])
+    ∷ has-at caliper 99 (Answered No)
+    ∷ has-at caliper 100 (Answered Yes)
+    ∷ has-at caliper 105 (Answered Yes)
+    ∷ has-at caliper 110 (Answered Yes)
+    ∷ has-at caliper 111 (Answered No)
+    ∷ has-runs (stretch 1 10 20 ∷ stretch 1 15 30 ∷ []) (run (pos 10) (pos 30) ∷ [])
+    ∷ on (Both 1 2 3 ∷ []) (stretch 1 10 20 ∷ stretch 2 15 30 ∷ []) (Question.Spans 0 3) (Answered (Spans (run (pos 15) (pos 20) ∷ [])))
+    ∷ has-runs (stretch 1 10 20 ∷ stretch 1 21 30 ∷ []) (run (pos 10) (pos 30) ∷ [])
+    ∷ has-runs (stretch 1 10 20 ∷ stretch 1 22 30 ∷ []) (run (pos 10) (pos 20) ∷ run (pos 22) (pos 30) ∷ [])
+    ∷ on (Both 1 2 3 ∷ []) (stretch 1 10 30 ∷ stretch 2 15 20 ∷ []) (Question.Spans 0 3) (Answered (Spans (run (pos 15) (pos 20) ∷ [])))
+    ∷ has-runs (record { atom = Has 0 1; top = negsuc 4; bottom = pos 5 } ∷ []) (run (negsuc 4) (pos 5) ∷ [])
+    ∷ on (Via 0 2 3 ∷ []) (record { atom = Linked 0 0 1; top = pos 10; bottom = pos 20 } ∷ record { atom = Has 1 2; top = pos 15; bottom = pos 30 } ∷ [])
+    (Question.Spans 0 3) (Answered (Spans (run (pos 15) (pos 20) ∷ [])))
+    ∷ has-runs (strike (sameMark (stretch 1 10 20)) (stretch 1 10 20 ∷ stretch 1 20 30 ∷ [])) (run (pos 20) (pos 30) ∷ [])
+    ∷ has-at (strike (sameMark (stretch 1 10 20)) (stretch 1 10 20 ∷ stretch 1 20 30 ∷ [])) 20 (Answered Yes)
+    ∷ has-at (strike (sameMark (stretch 1 10 20)) (stretch 1 10 20 ∷ stretch 1 20 30 ∷ [])) 19 (Answered No)
+    ∷ []
+
+-- 01, Cases at the edges: those marked P, in its order but for the rows of every item, which stand behind; then 02's
+abbrev pub cases : List Case
+cases =
+    gives (Within 3) four (run (negsuc 2) (pos 0) ∷ run (pos 4) (pos 4) ∷ [])
+    ∷ gives (Within 1) four (run (negsuc 2) (negsuc 1) ∷ run (pos 0) (pos 0) ∷ run (pos 4) (pos 4) ∷ [])
+    ∷ gives Between four (run (negsuc 2) (pos 4) ∷ [])
+    ∷ gives Above four (run NO-TOP (pos 4) ∷ [])
+    ∷ gives Below four (run (negsuc 2) NO-BOTTOM ∷ [])
+    ∷ gives (Within 20) two (run (pos 104) (pos 123) ∷ [])
+    ∷ gives (Within 19) two (run (pos 104) (pos 104) ∷ run (pos 123) (pos 123) ∷ [])
+    ∷ on contrary [] (Question.Holds (Has 0 1) (pos 0)) (Contradiction 0)
+    ∷ on contrary [] (Question.Spans 0 1) (Contradiction 0)
+    ∷ joined (pos 10) (Question.Holds (Has 0 3) (pos 10)) (Answered Yes)
+    ∷ joined (pos 10) (Question.Holds (Has 0 3) (pos 11)) (Answered No)
+    ∷ joined (pos 10) (Question.Spans 0 3) (Answered (Spans (run (pos 10) (pos 10) ∷ [])))
+    ∷ joined (pos 11) (Question.Holds (Has 0 3) (pos 11)) (Answered No)
+    ∷ joined (pos 11) (Question.Spans 0 3) (Answered (Spans []))
+    ∷ (nothing ITEMS ++ stretches)
