@@ -5,7 +5,7 @@ use model::block::SIZE;
 use model::frame::bytes;
 use model::held::Held;
 use model::service::{Lent, Memory};
-use model::terms::{Answer, Record};
+use model::terms::{Answer, Mark, Record};
 use panel::{Empty, Numbers};
 
 /// What is measured.
@@ -13,7 +13,7 @@ use panel::{Empty, Numbers};
 pub enum Operation {
     /// Both tables derived the naive way.
     Naive,
-    /// A QUERY record: the block loaded and checked, both tables derived.
+    /// A QUERY record inside the first mark: the block loaded and checked, both tables derived.
     Question,
     /// A PUT record that makes the section full.
     Put,
@@ -85,7 +85,7 @@ impl Case {
         let mark = section.marks[0];
         Case {
             put: bytes(&Record::Put(mark)),
-            question: bytes(&Record::Query(mark.fact, mark.depth.into())),
+            question: bytes(&Record::Query(mark.fact, middle(&mark))),
             section,
             full,
             short,
@@ -138,6 +138,10 @@ impl Case {
             Operation::Load => bench.record(&[]),
         }
     }
+}
+
+fn middle(mark: &Mark) -> i64 {
+    (i64::from(mark.top) + i64::from(mark.bottom)) / 2
 }
 
 /// The records that bring any block to the section.

@@ -122,40 +122,66 @@ fn micros(measured: &Measured, place: usize) -> f64 {
     measured.best[place].as_nanos() as f64 / 1_000.0
 }
 
-fn print_sections(all: &[Measured]) {
+fn stretches_of(section: &Held) -> usize {
+    section.marks.iter().filter(|mark| !mark.is_point()).count()
+}
+
+/// What the sections of one set are like.
+fn print_sections(name: &str, cases: &[Case], all: &[Measured]) {
     let contradictions = all.iter().filter(|one| one.contradiction).count();
+    let (_, stretches, _) = spread(cases.iter().map(|case| stretches_of(&case.section)));
+    let (fewest, depths, most_depths) = spread(cases.iter().map(|case| case.section.ends().len()));
     let (least, median, most) = spread(all.iter().map(|one| one.passes));
     println!(
-        "{} sections, {contradictions} with a contradiction",
+        "{name}: {} sections, {contradictions} with a contradiction",
         all.len()
     );
-    println!("naive passes: median {median}, from {least} to {most}");
-    println!("processor time, best of {ROUNDS}");
+    println!("    stretches among 256 marks: median {stretches}");
+    println!("    marked depths: median {depths}, from {fewest} to {most_depths}");
+    println!("    naive passes: median {median}, from {least} to {most}");
 }
 
-fn print_spread(name: &str, values: impl Iterator<Item = f64>) {
-    let (least, median, most) = spread(values);
-    println!("{name:<24}{median:>10.1}{least:>10.1}{most:>10.1}");
-}
-
-fn print_times(all: &[Measured]) {
-    println!(
-        "{:<24}{:>10}{:>10}{:>10}",
-        "microseconds", "median", "least", "most"
-    );
-    for (place, operation) in Operation::ALL.into_iter().enumerate() {
-        print_spread(operation.name(), all.iter().map(|one| micros(one, place)));
+/// One line with least, median and greatest of each set.
+fn print_line<'a>(name: &str, sets: &'a [Vec<Measured>], value: impl Fn(&'a Measured) -> f64) {
+    print!("{name:<20}");
+    for all in sets {
+        let (least, median, most) = spread(all.iter().map(&value));
+        print!("{median:>12.1}{least:>10.1}{most:>10.1}");
     }
-    let ratios = all.iter().map(|one| micros(one, 0) / micros(one, 1));
-    print_spread("naive / question", ratios);
+    println!();
 }
 
-pub fn report(cases: &[Case]) {
+fn print_times(names: &[&str], sets: &[Vec<Measured>]) {
+    println!("processor time in microseconds, best of {ROUNDS}");
+    print!("{:<20}", "");
+    names.iter().for_each(|name| print!("{name:>32}"));
+    print!("\n{:<20}", "");
+    names
+        .iter()
+        .for_each(|_| print!("{:>12}{:>10}{:>10}", "median", "least", "most"));
+    println!();
+    for (place, operation) in Operation::ALL.into_iter().enumerate() {
+        print_line(operation.name(), sets, |one| micros(one, place));
+    }
+    print_line("naive / question", sets, |one| {
+        micros(one, 0) / micros(one, 1)
+    });
+}
+
+fn measure_set(cases: &[Case]) -> Vec<Measured> {
     let mut bench = Bench::new();
     for case in cases {
         check_kinds(&case.section);
     }
-    let all: Vec<Measured> = cases.iter().map(|case| measure(case, &mut bench)).collect();
-    print_sections(&all);
-    print_times(&all);
+    cases.iter().map(|case| measure(case, &mut bench)).collect()
+}
+
+/// All sets, by their names.
+pub fn report(sets: &[(&str, Vec<Case>)]) {
+    let measured: Vec<_> = sets.iter().map(|(_, cases)| measure_set(cases)).collect();
+    for ((name, cases), all) in sets.iter().zip(&measured) {
+        print_sections(name, cases, all);
+    }
+    let names: Vec<&str> = sets.iter().map(|(name, _)| *name).collect();
+    print_times(&names, &measured);
 }

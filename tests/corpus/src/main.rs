@@ -1,5 +1,6 @@
 //! Writes stored test inputs of the program and what it has to print.
-//! `corpus wells FOLDER`: a hundred wells; `corpus limits FOLDER`: inputs at the size limit.
+//! `corpus wells FOLDER`: a hundred wells with points, and fifty with points and stretches behind
+//! them; `corpus limits FOLDER`: inputs at the size limit.
 
 mod limits;
 mod well;
@@ -9,7 +10,9 @@ use model::listing::{listing, MAX_INPUT};
 use std::path::Path;
 use well::{Size, Well};
 
-const WELLS: u64 = 100;
+const WELLS: u64 = 150;
+/// From this well on a caliper gives stretches.
+const CALIPER: u64 = 100;
 
 /// From a few marks to full lists; each tenth well goes over its limits.
 fn size(number: u64) -> Size {
@@ -24,6 +27,10 @@ fn size(number: u64) -> Size {
         strict: dice.percent(25),
         sections: 1 + u64::from(number % 7 == 3) + 6 * u64::from(number == 99),
         broken_end: number == 42,
+        stretches: match number < CALIPER {
+            true => 0,
+            false => dice.pick(&[20, 50, 80]),
+        },
     };
     match large {
         8 => Size { deeper: 60, ..size },

@@ -1,7 +1,8 @@
-//! A well as a stream of records: rules, then a drilled section with questions in between.
+//! A well as a stream of records: rules, then a drilled section with questions in between. Where a
+//! caliper runs, marks are points and stretches, by the old kinds and the new ones.
 
 use dice::Dice;
-use model::frame::{bytes, framed};
+use model::frame::{bytes, framed, wide_bytes};
 use model::short::*;
 use model::terms::*;
 
@@ -37,6 +38,8 @@ pub struct Size {
     pub strict: bool,
     pub sections: u64,
     pub broken_end: bool,
+    /// How often, in percent, a mark is a stretch; nothing of it is drawn where this is 0.
+    pub stretches: u64,
 }
 
 pub struct Well {
@@ -90,8 +93,20 @@ impl Well {
         self.stream
     }
 
+    fn caliper(&self) -> bool {
+        self.size.stretches > 0
+    }
+
     fn send(&mut self, record: Record) {
         self.stream.extend(bytes(&record));
+    }
+
+    /// Puts or takes a mark; with a caliper also a point by the new kinds now and then.
+    fn send_mark(&mut self, record: Record) {
+        match self.caliper() && self.dice.percent(30) {
+            true => self.stream.extend(wide_bytes(&record)),
+            false => self.send(record),
+        }
     }
 
     /// One drilled section; the next one starts with a reset.
@@ -145,16 +160,36 @@ impl Well {
         }
     }
 
+    /// The top of a stretch that ends at the bit: it starts with another mark, inside it, directly
+    /// behind it or somewhere above.
+    fn stretch_top(&mut self) -> i32 {
+        let bit = self.depth as i32;
+        let lately = self.marks.len().saturating_sub(12);
+        let Some(near) = self.marks.get(lately..).filter(|near| !near.is_empty()) else {
+            return bit - 25;
+        };
+        let near = self.dice.pick(near);
+        let above = bit - self.dice.between(0, self.size.step) as i32;
+        let tops = [near.top, near.top, near.bottom, near.bottom + 1, above];
+        self.dice.pick(&tops).min(bit)
+    }
+
+    /// What is seen at the bit, or over the stretch that ends there.
+    fn mark(&mut self) -> Mark {
+        let (fact, bit) = (self.observed(), self.depth as i32);
+        match self.caliper() && self.dice.percent(self.size.stretches) {
+            true => from_to(fact, self.stretch_top(), bit),
+            false => Mark::point(fact, bit),
+        }
+    }
+
     /// A mark at the bit, now and then one step deeper, and what else happens on the way.
     fn drill(&mut self) {
         if self.dice.percent(self.size.deeper) {
             self.depth += self.dice.between(1, self.size.step);
         }
-        let mark = Mark {
-            fact: self.observed(),
-            depth: self.depth as i32,
-        };
-        self.send(Record::Put(mark));
+        let mark = self.mark();
+        self.send_mark(Record::Put(mark));
         self.marks.push(mark);
         match self.dice.below(24) {
             0 => self.take_back(),
@@ -167,27 +202,51 @@ impl Well {
 
     fn take_back(&mut self) {
         let mark = self.dice.pick(&self.marks);
-        self.send(Record::Take(mark));
+        self.send_mark(Record::Take(mark));
     }
 
     /// Something that is turned away, most often for what it says.
     fn mistake(&mut self) {
         let mark = self.dice.pick(&self.marks);
-        match self.dice.below(7) {
+        let sorts = if self.caliper() { 14 } else { 7 };
+        match self.dice.below(sorts) {
             0 => self.send(Record::Put(mark)),
-            1 => self.send(put(has(16, SAND), mark.depth)),
-            2 => self.send(put(mark.fact, DEEPEST + mark.depth.abs() + 1)),
-            3 => self.send(take(has(0, PAY), mark.depth)),
+            1 => self.send(put(has(16, SAND), mark.top)),
+            2 => self.send(put(mark.fact, DEEPEST + mark.top.abs() + 1)),
+            3 => self.send(take(has(0, PAY), mark.top)),
             4 => self.send(label(within(0), SAND, SHALE)),
             5 => self.stream.extend(framed(13, &[0, PAY])),
-            _ => self.stream.extend(framed(12, &[0, PAY, 0])),
+            6 => self.stream.extend(framed(12, &[0, PAY, 0])),
+            sort => self.caliper_mistake(sort, mark),
+        }
+    }
+
+    fn caliper_mistake(&mut self, sort: u64, mark: Mark) {
+        let Mark { fact, top, bottom } = mark;
+        match sort {
+            7 => self.stream.extend(wide_bytes(&Record::Put(mark))),
+            8 => self.send(put_from_to(fact, bottom + 1, top)),
+            9 => self.send(take_from_to(fact, bottom + 1, top)),
+            10 => self.send(put_from_to(fact, top, DEEPEST + 1)),
+            11 => self.send(put_from_to(fact, DEEPEST + 1, bottom)),
+            12 => self.send(take(fact, top)),
+            _ => self.stream.extend(framed(23, &[1])),
+        }
+    }
+
+    /// A depth of the mark; a point's only one without a draw.
+    fn depth_of(&mut self, mark: Mark) -> i64 {
+        let (top, bottom) = (i64::from(mark.top), i64::from(mark.bottom));
+        match mark.is_point() {
+            true => top,
+            false => self.dice.between(top, bottom),
         }
     }
 
     /// Most questions are about what was seen nearby, or what may follow from it.
     fn question(&mut self) {
         let near = self.dice.pick(&self.marks);
-        let depth = i64::from(near.depth) + self.dice.pick(&[0, 0, -1, 1, -40, 300]);
+        let depth = self.depth_of(near) + self.dice.pick(&[0, 0, -1, 1, -40, 300]);
         let derived = self.dice.between(0, HOUSE.into()) as u8;
         match (near.fact, self.dice.below(8)) {
             (_, 0) => self.send(query(near.fact, i64::MAX)),
@@ -212,7 +271,7 @@ impl Well {
             let marks = std::mem::take(&mut self.marks);
             let wet = |mark: &&Mark| matches!(mark.fact, Fact::Label { label: WATER, .. });
             let water = marks.iter().filter(wet);
-            water.for_each(|&mark| self.send(Record::Take(mark)));
+            water.for_each(|&mark| self.send_mark(Record::Take(mark)));
             self.marks = marks;
             self.show();
         }

@@ -1,14 +1,15 @@
 //! Wrong bytes, wrong lengths and wrong blocks.
 
-use crate::source::Source;
+use crate::source::{Source, EDGE_DEPTHS};
 use dice::Dice;
-use model::block::{MARKS_AT, PLACE, RULES_AT, SIZE};
-use model::frame::framed;
+use model::block::{mark_place, MARKS_AT, MARK_PLACE, RULES_AT, RULE_PLACE, SIZE};
+use model::frame::{four, framed};
 use model::service::{Lent, Memory};
+use model::short::{from_to, has};
 
 /// More than the least that is enough, so that tails can be watched.
 pub const WHOLE: Lent = Lent {
-    block: 3_200,
+    block: 4_224,
     labels: 3_120,
     links: 49_500,
     spans: 256,
@@ -36,7 +37,7 @@ pub fn damage(dice: &mut Dice, mut bytes: Vec<u8>) -> Vec<u8> {
         1 => bytes.truncate(dice.below(size) as usize),
         2 => bytes[0] = dice.pick(&[0, 1, 2, 3, bytes[0] - 1, bytes[0] + 1, 255]),
         3 => bytes[1] = dice.pick(&[0, 1, 255]),
-        4 => bytes[2] = dice.pick(&[0, 12, 13, 14, 255]),
+        4 => bytes[2] = dice.pick(&[0, 6, 12, 13, 14, 15, 16, 17, 255]),
         5 => bytes[3] = dice.pick(&[1, 2, 128, 255]),
         6 => bytes = framed(u16::from(bytes[2]), &bytes[4..bytes.len().max(5) - 1]),
         _ => {
@@ -97,43 +98,84 @@ fn likely(dice: &mut Dice, block: &[u8]) -> usize {
     let at = match dice.below(6) {
         0 => dice.below(4),
         1 => dice.below(RULES_AT as u64),
-        2 | 3 => RULES_AT as u64 + dice.below(rules * PLACE as u64),
-        4 => MARKS_AT as u64 + dice.below(marks * PLACE as u64),
+        2 | 3 => RULES_AT as u64 + dice.below(rules * RULE_PLACE as u64),
+        4 => MARKS_AT as u64 + dice.below(marks * MARK_PLACE as u64),
         _ => dice.below(SIZE as u64),
     };
     at as usize
 }
 
+fn marks_of(block: &[u8]) -> usize {
+    usize::from(u16::from_le_bytes([block[2], block[3]]))
+}
+
+/// Where a place of the block's marks starts; the first one where none is held.
+fn some_mark(dice: &mut Dice, block: &[u8]) -> usize {
+    let count = marks_of(block).max(1) as u64;
+    MARKS_AT + MARK_PLACE * dice.below(count) as usize
+}
+
 /// Copies one place over another, which makes a double among the rules or the marks.
 fn double(dice: &mut Dice, block: &mut [u8]) {
-    let (base, count) = match dice.below(2) {
-        0 => (RULES_AT, u64::from(block[0])),
-        _ => (MARKS_AT, u64::from(block[2])),
-    };
-    let mut place = || base + PLACE * dice.below(count.max(1)) as usize;
-    let (from, to) = (place(), place());
-    block.copy_within(from..from + PLACE, to);
-}
-
-/// Adds a mark behind the last one: a good block, unless a limit is passed.
-fn append(dice: &mut Dice, block: &mut [u8]) {
-    let count = u16::from_le_bytes([block[2], block[3]]);
-    let at = MARKS_AT + PLACE * usize::from(count);
-    let depth = dice.between(-9_000, 9_000) as i32;
-    if at < SIZE {
-        block[at..at + 4].copy_from_slice(&[6, 0, 1, 0]);
-        block[at + 4..at + PLACE].copy_from_slice(&depth.to_le_bytes());
+    let rules = u64::from(block[0]).max(1);
+    let mut some_rule = || RULES_AT + RULE_PLACE * dice.below(rules) as usize;
+    let (from, to) = (some_rule(), some_rule());
+    match dice.below(2) {
+        0 => block.copy_within(from..from + RULE_PLACE, to),
+        _ => {
+            let (from, to) = (some_mark(dice, block), some_mark(dice, block));
+            block.copy_within(from..from + MARK_PLACE, to);
+        }
     }
-    block[2..4].copy_from_slice(&(count + 1).to_le_bytes());
 }
 
-/// Changes the block: a byte, a double, one mark more, or everything.
+/// Adds a mark behind the last one, with ends that are new or not: a good block, unless a limit
+/// is passed.
+fn append(dice: &mut Dice, block: &mut [u8]) {
+    let count = marks_of(block);
+    let mut held = || i32::from_le_bytes(four(block, some_mark(dice, block) + dice.pick(&[4, 8])));
+    let (one, other) = (held(), held());
+    let fresh = dice.between(-9_000, 9_000) as i32;
+    let ends = [
+        (fresh, fresh),
+        (fresh, fresh + 3),
+        (fresh, one),
+        (one, other),
+    ];
+    let (one, other) = dice.pick(&ends);
+    let mark = from_to(has(0, 1), one.min(other), one.max(other));
+    let at = MARKS_AT + MARK_PLACE * count;
+    if at < SIZE {
+        block[at..at + MARK_PLACE].copy_from_slice(&mark_place(&mark));
+    }
+    block[2..4].copy_from_slice(&(count as u16 + 1).to_le_bytes());
+}
+
+/// Exchanges a mark's ends, which is a good block only if they are equal.
+fn turn_over(dice: &mut Dice, block: &mut [u8]) {
+    let at = some_mark(dice, block);
+    block[at + 4..at + MARK_PLACE].rotate_left(4);
+}
+
+/// Moves an end of a mark to an edge or by one.
+fn move_end(dice: &mut Dice, block: &mut [u8]) {
+    let at = some_mark(dice, block) + dice.pick(&[4, 8]);
+    let now = i32::from_le_bytes(four(block, at));
+    let edge = dice.pick(&EDGE_DEPTHS);
+    let end = dice.pick(&[edge, edge, now.wrapping_add(1), now.wrapping_sub(1)]);
+    block[at..at + 4].copy_from_slice(&end.to_le_bytes());
+}
+
+/// Changes the block: a byte, an end, a double, one mark more, or everything.
 pub fn spoil(dice: &mut Dice, block: &mut [u8]) {
-    match dice.below(12) {
+    match dice.below(16) {
         0 => block.fill_with(|| dice.word() as u8),
         1 | 2 => double(dice, block),
         3 => block[..4].copy_from_slice(&[128, 0, 0, 1]),
         4 | 5 => append(dice, block),
+        6 => turn_over(dice, block),
+        7 | 8 => move_end(dice, block),
+        9 => block[some_mark(dice, block)] = dice.pick(&[0, 6, 7, 8, 13, 14]),
         _ => {
             let at = likely(dice, block);
             let now = block[at];

@@ -1,7 +1,9 @@
 //! Runs random streams of calls through the archive and the model and compares them.
 //! Arguments: seconds to run (default 100) and the first seed (default 1).
 
+mod cases;
 mod damage;
+mod ends;
 mod plan;
 mod source;
 mod stream;
@@ -31,7 +33,7 @@ fn main() -> ExitCode {
     tally.print();
     let missing = tally.missing();
     if !missing.is_empty() && seconds >= 10 {
-        println!("refusals that never came up: {missing:?}");
+        println!("refusals and cases that never came up: {missing:?}");
         return ExitCode::FAILURE;
     }
     ExitCode::SUCCESS

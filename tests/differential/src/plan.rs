@@ -13,8 +13,16 @@ pub struct Plan {
     pub rules: u64,
     pub marks: u64,
     pub depths: u64,
-    /// Marks at a depth outside the usual few.
+    /// Ends of marks at a depth outside the usual few.
     pub fresh: u64,
+    /// Marks that are stretches.
+    pub stretches: u64,
+    /// Stretches with the top deeper than the bottom.
+    pub reversed: u64,
+    /// Marks whose ends go by those of a held one.
+    pub near: u64,
+    /// Marks by the kinds 13 to 16 although both ends are equal.
+    pub wide: u64,
     pub never: u64,
     pub edge: u64,
     pub damage: u64,
@@ -35,6 +43,10 @@ fn small(dice: &mut Dice) -> Plan {
         marks: dice.below(24),
         depths: 2 + dice.below(10),
         fresh: 10,
+        stretches: dice.pick(&[20, 50, 80]),
+        reversed: 4,
+        near: 25,
+        wide: dice.pick(&[0, 30, 100]),
         never: dice.pick(&[0, 0, 0, 4, 12]),
         edge: 2,
         damage: 1,
@@ -53,47 +65,72 @@ fn full(dice: &mut Dice, plan: Plan) -> Plan {
         width: dice.pick(&[400, 3_000]),
         rules: dice.pick(&[30, 127, 128]),
         marks: dice.pick(&[110, 200, 255, 256]),
-        depths: dice.pick(&[60, 95, 96, 96]),
+        depths: dice.pick(&[60, 94, 95, 96, 96]),
         never: dice.pick(&[0, 0, 1]),
         edge: 3,
         ..plan
     }
 }
 
-/// All depths taken, with few rules and room for marks.
+/// All depths taken but one or two, with few rules and room for marks.
 fn deep(dice: &mut Dice, plan: Plan) -> Plan {
     Plan {
         width: dice.pick(&[200, 2_000]),
         marks: dice.between(95, 120) as u64,
-        depths: dice.pick(&[95, 96]),
-        fresh: 70,
+        depths: dice.pick(&[94, 95, 96]),
+        fresh: dice.pick(&[30, 70]),
         spoil: 8,
+        ..plan
+    }
+}
+
+/// Points by the old kinds alone.
+fn points(plan: Plan) -> Plan {
+    Plan {
+        stretches: 0,
+        reversed: 0,
+        near: 0,
+        wide: 0,
+        ..plan
+    }
+}
+
+/// A long life from the empty block on.
+fn long(plan: Plan) -> Plan {
+    Plan {
+        calls: 300,
+        rules: 0,
+        marks: 0,
         ..plan
     }
 }
 
 pub fn plan(dice: &mut Dice) -> Plan {
     let plan = small(dice);
-    match dice.below(16) {
-        0..=2 => plan,
-        3 => deep(dice, plan),
-        // A long life from the empty block on.
-        4 => Plan {
-            calls: 300,
-            rules: 0,
-            marks: 0,
+    match dice.below(20) {
+        0..=1 => plan,
+        2 => points(plan),
+        3 | 4 => Plan {
+            stretches: 90,
+            near: 80,
             ..plan
         },
-        5..=7 => Plan { edge: 20, ..plan },
-        8 | 9 => Plan { damage: 45, ..plan },
-        10 | 11 => Plan { spoil: 50, ..plan },
-        12 => Plan { short: 30, ..plan },
-        13 => Plan {
+        5..=7 => deep(dice, plan),
+        8 => long(plan),
+        9..=11 => Plan {
+            edge: 20,
+            reversed: 25,
+            ..plan
+        },
+        12 | 13 => Plan { damage: 45, ..plan },
+        14 | 15 => Plan { spoil: 50, ..plan },
+        16 => Plan { short: 30, ..plan },
+        17 => Plan {
             top: -10_000,
             width: 210_001,
             ..plan
         },
-        14 => Plan {
+        18 => Plan {
             edge: 6,
             damage: 10,
             spoil: 10,

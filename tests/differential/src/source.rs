@@ -2,15 +2,27 @@
 
 use crate::plan::Plan;
 use dice::Dice;
+use model::frame::{bytes, wide_bytes};
 use model::held::Held;
 use model::terms::*;
 use std::collections::BTreeSet;
+
+/// Depths at the ends of the range, out of it and beside zero.
+pub const EDGE_DEPTHS: [i32; 7] = [
+    SHALLOWEST,
+    SHALLOWEST - 1,
+    DEEPEST,
+    DEEPEST + 1,
+    i32::MIN,
+    i32::MAX,
+    -1,
+];
 
 pub struct Source {
     pub dice: Dice,
     pub plan: Plan,
     /// Marks meet at few depths, so that rules find their premises together.
-    pool: Vec<i32>,
+    pub pool: Vec<i32>,
 }
 
 impl Source {
@@ -59,22 +71,14 @@ impl Source {
         }
     }
 
-    fn depth(&mut self) -> i32 {
+    /// An end of a mark.
+    pub fn depth(&mut self) -> i32 {
         let anywhere = self.dice.below(self.plan.width as u64) as i64 + self.plan.top;
         let usual = match self.dice.percent(self.plan.fresh) {
             true => anywhere as i32,
             false => self.dice.pick(&self.pool),
         };
-        let edges = [
-            SHALLOWEST,
-            SHALLOWEST - 1,
-            DEEPEST,
-            DEEPEST + 1,
-            i32::MIN,
-            i32::MAX,
-            -1,
-        ];
-        self.or_edge(usual, &edges)
+        self.or_edge(usual, &EDGE_DEPTHS)
     }
 
     /// Questions stand on marks, beside them, between them and far from them.
@@ -138,10 +142,9 @@ impl Source {
     }
 
     pub fn mark(&mut self) -> Mark {
-        Mark {
-            fact: self.fact(1),
-            depth: self.depth(),
-        }
+        let fact = self.fact(1);
+        let (top, bottom) = self.ends();
+        Mark { fact, top, bottom }
     }
 
     fn spans(&mut self) -> Record {
@@ -151,19 +154,26 @@ impl Source {
         }
     }
 
-    /// A mark that is held, if any, with the given chance.
+    /// A mark that is held, if any, with the given chance, or else one that goes by it.
     fn mark_or_held(&mut self, held: &Held, chance: u64) -> Mark {
-        match !held.marks.is_empty() && self.dice.percent(chance) {
-            true => self.dice.pick(&held.marks),
+        if held.marks.is_empty() {
+            return self.mark();
+        }
+        let known = self.dice.pick(&held.marks);
+        match self.dice.percent(chance) {
+            true => known,
+            false if self.dice.percent(self.plan.near) => self.beside(known),
             false => self.mark(),
         }
     }
 
-    /// A question on a mark's depth or beside it.
+    /// A question at an end of a mark, inside it or beside it.
     fn question_at(&mut self, held: &Held) -> Record {
         let mark = self.mark_or_held(held, 95);
-        let depth = i64::from(mark.depth) + self.dice.pick(&[-1, 0, 0, 1]);
-        Record::Query(mark.fact, depth)
+        let [top, bottom] = mark.ends().map(i64::from);
+        let inside = self.dice.between(top.min(bottom), top.max(bottom));
+        let depths = [top - 1, top, inside, inside, bottom, bottom + 1];
+        Record::Query(mark.fact, self.dice.pick(&depths))
     }
 
     /// Half of the questions are about what some rule concludes.
@@ -203,10 +213,20 @@ impl Source {
         }
     }
 
+    /// The record as bytes; a mark with both ends equal by the old kinds or by the new ones.
+    pub fn written(&mut self, record: &Record) -> Vec<u8> {
+        match self.dice.percent(self.plan.wide) {
+            true => wide_bytes(record),
+            false => bytes(record),
+        }
+    }
+
     /// A mark at one depth of the pool after the other, so that all of them are taken.
     fn mark_in_turn(&mut self, turn: usize) -> Mark {
+        let (top, bottom) = self.ends_in_turn(turn);
         Mark {
-            depth: self.pool[turn % self.pool.len()],
+            top,
+            bottom,
             ..self.mark()
         }
     }

@@ -1,12 +1,12 @@
 //! One stream of calls, made to the archive and to the model alike.
 
+use crate::cases::Seen;
 use crate::damage::{damage, lengths, refill, spoil, with_rest, WHOLE};
 use crate::plan::plan;
 use crate::source::Source;
 use crate::tally::Tally;
 use dice::Dice;
 use model::block::{decode, encode, SIZE};
-use model::frame::bytes;
 use model::service::{self, Lent, Memory};
 use model::terms::Answer;
 use panel::{Empty, Numbers};
@@ -69,6 +69,9 @@ impl Stream {
             format!("call {number}: {difference}\n{lent}\n{call:x?}\nblock before: {before:x?}")
         })?;
         tally.count(answer);
+        if let Call::Record(input) = &call {
+            tally.see(&Seen::new(&before, input, answer));
+        }
         tally.nulls += u64::from(empty == Empty::Null && call.lends_nothing(&lent));
         if let Some(block) = kept {
             self.model.block.clone_from(&block);
@@ -96,7 +99,8 @@ impl Stream {
             return Call::Spans(item, label);
         }
         let held = decode(&self.model.block).unwrap_or_default();
-        let input = bytes(&self.source.record(&held));
+        let record = self.source.record(&held);
+        let input = self.source.written(&record);
         let dice = &mut self.source.dice;
         let damaged = dice.percent(self.source.plan.damage);
         Call::Record(match dice.below(50) {

@@ -1,6 +1,7 @@
-//! How often each answer and each refusal came up.
+//! How often each answer, each refusal and each case with stretches came up.
 
-use model::terms::Answer;
+use crate::cases::{Seen, CASES};
+use model::terms::{Answer, REFUSALS, REFUSAL_PLACES};
 
 const NAMES: [&str; 7] = [
     "done",
@@ -19,7 +20,14 @@ pub struct Tally {
     /// Calls with a null pointer, whose length is 0.
     pub nulls: u64,
     answers: [u64; 7],
-    refusals: [u64; 13],
+    refusals: [u64; REFUSAL_PLACES],
+    cases: [u64; CASES.len()],
+}
+
+/// Names with their numbers, parted by commas.
+fn listed<N: std::fmt::Display>(pairs: impl Iterator<Item = (N, u64)>) -> String {
+    let pairs: Vec<_> = pairs.map(|(name, n)| format!("{name} {n}")).collect();
+    pairs.join(", ")
 }
 
 impl Tally {
@@ -32,19 +40,34 @@ impl Tally {
         }
     }
 
-    pub fn print(&self) {
-        let answers = NAMES.iter().zip(self.answers);
-        let answers: Vec<_> = answers.map(|(name, n)| format!("{name} {n}")).collect();
-        let refusals = self.refusals.iter().enumerate().skip(1);
-        let refusals: Vec<_> = refusals.map(|(no, n)| format!("{no}: {n}")).collect();
-        let (streams, calls, nulls) = (self.streams, self.calls, self.nulls);
-        println!("{streams} streams, {calls} calls, {nulls} with a null pointer");
-        println!("answers: {}", answers.join(", "));
-        println!("refusals: {}", refusals.join(", "));
+    pub fn see(&mut self, seen: &Seen) {
+        for ((_, fits), count) in CASES.iter().zip(&mut self.cases) {
+            *count += u64::from(fits(seen));
+        }
     }
 
-    /// The refusal numbers that never came up.
-    pub fn missing(&self) -> Vec<usize> {
-        (1..13).filter(|&no| self.refusals[no] == 0).collect()
+    /// The refusals in the order in which they are tested.
+    fn refusals(&self) -> impl Iterator<Item = (String, u64)> + '_ {
+        let counted = |number: u32| (format!("{number}:"), self.refusals[number as usize]);
+        REFUSALS.into_iter().map(counted)
+    }
+
+    fn cases(&self) -> impl Iterator<Item = (String, u64)> + '_ {
+        let names = CASES.iter().map(|(name, _)| format!("{name}:"));
+        names.zip(self.cases)
+    }
+
+    pub fn print(&self) {
+        let (streams, calls, nulls) = (self.streams, self.calls, self.nulls);
+        println!("{streams} streams, {calls} calls, {nulls} with a null pointer");
+        println!("answers: {}", listed(NAMES.into_iter().zip(self.answers)));
+        println!("refusals: {}", listed(self.refusals()));
+        println!("stretches: {}", listed(self.cases()));
+    }
+
+    /// The refusals and cases that never came up.
+    pub fn missing(&self) -> Vec<String> {
+        let all = self.refusals().chain(self.cases());
+        all.filter(|(_, n)| *n == 0).map(|(name, _)| name).collect()
     }
 }

@@ -1,36 +1,32 @@
 //! The state block as docs/STATE.md lays it out.
 
+use crate::frame::{four, label_fact, link_fact, stretch};
 use crate::held::Held;
 use crate::terms::{Fact, Mark, Operator, Rule, MAX_MARKS, MAX_RULES};
 
-pub const SIZE: usize = 3_104;
+pub const SIZE: usize = 4_128;
 pub const RULES_AT: usize = 32;
 pub const MARKS_AT: usize = 1_056;
-pub const PLACE: usize = 8;
+pub const RULE_PLACE: usize = 8;
+pub const MARK_PLACE: usize = 12;
 
-fn rule_place(rule: &Rule) -> [u8; PLACE] {
+fn rule_place(rule: &Rule) -> Vec<u8> {
     let (head, n) = match *rule {
         Rule::Label { op, a, b } => ([2, op.code, a, b], op.n),
         Rule::Both { a, b, c } => ([3, a, b, c], 0),
         Rule::LinkRule { op, r, s } => ([4, op.code, r, s], op.n),
         Rule::Via { r, a, b } => ([5, r, a, b], 0),
     };
-    place(head, n.to_le_bytes())
+    [head, n.to_le_bytes()].concat()
 }
 
-fn mark_place(mark: &Mark) -> [u8; PLACE] {
+/// The place of a mark, by whichever kind it was put.
+pub fn mark_place(mark: &Mark) -> Vec<u8> {
     let head = match mark.fact {
         Fact::Label { item, label } => [6, item, label, 0],
         Fact::Link { from, kind, to } => [7, from, kind, to],
     };
-    place(head, mark.depth.to_le_bytes())
-}
-
-fn place(head: [u8; 4], number: [u8; 4]) -> [u8; PLACE] {
-    let mut bytes = [0; PLACE];
-    bytes[..4].copy_from_slice(&head);
-    bytes[4..].copy_from_slice(&number);
-    bytes
+    [head, mark.top.to_le_bytes(), mark.bottom.to_le_bytes()].concat()
 }
 
 pub fn encode(held: &Held) -> Vec<u8> {
@@ -44,15 +40,11 @@ pub fn encode(held: &Held) -> Vec<u8> {
     block
 }
 
-fn number(place: &[u8]) -> u32 {
-    u32::from_le_bytes([place[4], place[5], place[6], place[7]])
-}
-
 fn read_rule(place: &[u8]) -> Option<Rule> {
     let (x, y, z) = (place[1], place[2], place[3]);
     let op = Operator {
         code: x,
-        n: number(place),
+        n: u32::from_le_bytes(four(place, 4)),
     };
     match place[0] {
         2 => Some(Rule::Label { op, a: y, b: z }),
@@ -65,35 +57,31 @@ fn read_rule(place: &[u8]) -> Option<Rule> {
 
 fn read_mark(place: &[u8]) -> Option<Mark> {
     let fact = match place[0] {
-        6 => Fact::Label {
-            item: place[1],
-            label: place[2],
-        },
-        7 => Fact::Link {
-            from: place[1],
-            kind: place[2],
-            to: place[3],
-        },
+        6 => label_fact(&place[1..]),
+        7 => link_fact(&place[1..]),
         _ => return None,
     };
-    let depth = number(place) as i32;
-    Some(Mark { fact, depth })
+    Some(stretch(fact, &place[4..]))
 }
 
-/// The lists that a block of at least `SIZE` bytes holds; none where no run of records leads to it.
-pub fn decode(block: &[u8]) -> Option<Held> {
-    let block = &block[..SIZE];
+/// The lists as the places show them; none where a count or a place's kind is none.
+pub fn read(block: &[u8]) -> Option<Held> {
     let rules = usize::from(u16::from_le_bytes([block[0], block[1]]));
     let marks = usize::from(u16::from_le_bytes([block[2], block[3]]));
     if rules > MAX_RULES || marks > MAX_MARKS {
         return None;
     }
-    let rule_places = block[RULES_AT..MARKS_AT].chunks(PLACE).take(rules);
-    let mark_places = block[MARKS_AT..].chunks(PLACE).take(marks);
-    let held = Held {
+    let rule_places = block[RULES_AT..MARKS_AT].chunks(RULE_PLACE).take(rules);
+    let mark_places = block[MARKS_AT..SIZE].chunks(MARK_PLACE).take(marks);
+    Some(Held {
         rules: rule_places.map(read_rule).collect::<Option<_>>()?,
         marks: mark_places.map(read_mark).collect::<Option<_>>()?,
-    };
+    })
+}
+
+/// The lists that a block of at least `SIZE` bytes holds; none where no run of records leads to it.
+pub fn decode(block: &[u8]) -> Option<Held> {
+    let held = read(block)?;
     // Encoding again shows stray bytes: unused fields, free places, the settings' room.
-    (held.reachable() && encode(&held) == block).then_some(held)
+    (held.reachable() && encode(&held) == block[..SIZE]).then_some(held)
 }

@@ -12,6 +12,7 @@ pub struct Depths {
 }
 
 impl Depths {
+    /// The depths from top to bottom, both included; the top is not the deeper one.
     pub fn run(top: i64, bottom: i64) -> Depths {
         Depths {
             runs: vec![(top, bottom)],

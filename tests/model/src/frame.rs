@@ -19,8 +19,8 @@ fn length_of(kind: u16) -> Option<usize> {
         3 | 5 => 5,
         6 | 8 => 8,
         7 | 9 => 9,
-        10 => 12,
-        11 => 13,
+        10 | 13 | 15 => 12,
+        11 | 14 | 16 => 13,
         12 => 4,
         _ => return None,
     };
@@ -50,22 +50,25 @@ pub fn split(input: &[u8]) -> Result<Frame<'_>, Broken> {
     }
 }
 
-fn four(body: &[u8], at: usize) -> [u8; 4] {
-    body[at..at + 4].try_into().expect("four bytes")
+/// The four bytes from `at` on.
+pub fn four(bytes: &[u8], at: usize) -> [u8; 4] {
+    bytes[at..at + 4].try_into().expect("four bytes")
 }
 
 fn eight(body: &[u8], at: usize) -> i64 {
     i64::from_le_bytes(body[at..at + 8].try_into().expect("eight bytes"))
 }
 
-fn label_fact(body: &[u8]) -> Fact {
+/// The item and the label that the bytes start with.
+pub fn label_fact(body: &[u8]) -> Fact {
     Fact::Label {
         item: body[0],
         label: body[1],
     }
 }
 
-fn link_fact(body: &[u8]) -> Fact {
+/// The items and the link kind that the bytes start with.
+pub fn link_fact(body: &[u8]) -> Fact {
     Fact::Link {
         from: body[0],
         kind: body[1],
@@ -73,17 +76,17 @@ fn link_fact(body: &[u8]) -> Fact {
     }
 }
 
-fn label_mark(body: &[u8]) -> Mark {
-    Mark {
-        fact: label_fact(body),
-        depth: i32::from_le_bytes(four(body, 2)),
-    }
+/// A mark with both ends at the depth behind its names.
+fn point(fact: Fact, depth: &[u8]) -> Mark {
+    Mark::point(fact, i32::from_le_bytes(four(depth, 0)))
 }
 
-fn link_mark(body: &[u8]) -> Mark {
+/// A mark whose top and bottom stand behind its names, as in a place of the block.
+pub fn stretch(fact: Fact, ends: &[u8]) -> Mark {
     Mark {
-        fact: link_fact(body),
-        depth: i32::from_le_bytes(four(body, 3)),
+        fact,
+        top: i32::from_le_bytes(four(ends, 0)),
+        bottom: i32::from_le_bytes(four(ends, 4)),
     }
 }
 
@@ -115,16 +118,20 @@ pub fn read(frame: &Frame) -> Record {
     match frame.kind {
         1 => Record::Reset,
         2..=5 => Record::Rule(rule(frame.kind, body)),
-        6 => Record::Put(label_mark(body)),
-        7 => Record::Put(link_mark(body)),
-        8 => Record::Take(label_mark(body)),
-        9 => Record::Take(link_mark(body)),
+        6 => Record::Put(point(label_fact(body), &body[2..])),
+        7 => Record::Put(point(link_fact(body), &body[3..])),
+        8 => Record::Take(point(label_fact(body), &body[2..])),
+        9 => Record::Take(point(link_fact(body), &body[3..])),
         10 => Record::Query(label_fact(body), eight(body, 2)),
         11 => Record::Query(link_fact(body), eight(body, 3)),
-        _ => Record::Spans {
+        12 => Record::Spans {
             item: body[0],
             label: body[1],
         },
+        13 => Record::Put(stretch(label_fact(body), &body[2..])),
+        14 => Record::Put(stretch(link_fact(body), &body[3..])),
+        15 => Record::Take(stretch(label_fact(body), &body[2..])),
+        _ => Record::Take(stretch(link_fact(body), &body[3..])),
     }
 }
 
@@ -147,23 +154,43 @@ fn rule_bytes(rule: &Rule) -> Vec<u8> {
     }
 }
 
-/// A fact and its depth's bytes; a link's kind is one more than a label's.
-fn fact_bytes(label_kind: u16, fact: Fact, depth: &[u8]) -> Vec<u8> {
+/// A fact and the bytes of its depths; a link's kind is one more than a label's.
+fn fact_bytes(label_kind: u16, fact: Fact, depths: &[u8]) -> Vec<u8> {
     match fact {
-        Fact::Label { item, label } => framed(label_kind, &[&[item, label], depth].concat()),
+        Fact::Label { item, label } => framed(label_kind, &[&[item, label], depths].concat()),
         Fact::Link { from, kind, to } => {
-            framed(label_kind + 1, &[&[from, kind, to], depth].concat())
+            framed(label_kind + 1, &[&[from, kind, to], depths].concat())
         }
     }
 }
 
+fn point_bytes(label_kind: u16, mark: &Mark) -> Vec<u8> {
+    fact_bytes(label_kind, mark.fact, &mark.top.to_le_bytes())
+}
+
+fn stretch_bytes(label_kind: u16, mark: &Mark) -> Vec<u8> {
+    let ends = mark.ends().map(i32::to_le_bytes);
+    fact_bytes(label_kind, mark.fact, &ends.concat())
+}
+
+/// The record as bytes: a mark with both ends equal by the kinds 6 to 9, another by 13 to 16.
 pub fn bytes(record: &Record) -> Vec<u8> {
     match record {
         Record::Reset => framed(1, &[]),
         Record::Rule(rule) => rule_bytes(rule),
-        Record::Put(mark) => fact_bytes(6, mark.fact, &mark.depth.to_le_bytes()),
-        Record::Take(mark) => fact_bytes(8, mark.fact, &mark.depth.to_le_bytes()),
+        Record::Put(mark) if mark.is_point() => point_bytes(6, mark),
+        Record::Take(mark) if mark.is_point() => point_bytes(8, mark),
+        Record::Put(_) | Record::Take(_) => wide_bytes(record),
         Record::Query(fact, depth) => fact_bytes(10, *fact, &depth.to_le_bytes()),
         Record::Spans { item, label } => framed(12, &[*item, *label]),
+    }
+}
+
+/// The same, but each mark by the kinds 13 to 16.
+pub fn wide_bytes(record: &Record) -> Vec<u8> {
+    match record {
+        Record::Put(mark) => stretch_bytes(13, mark),
+        Record::Take(mark) => stretch_bytes(15, mark),
+        other => bytes(other),
     }
 }

@@ -10,11 +10,12 @@ pub struct Held {
 }
 
 impl Held {
-    pub fn depths(&self) -> BTreeSet<i32> {
-        self.marks.iter().map(|mark| mark.depth).collect()
+    /// The marked depths: all tops and bottoms, each once.
+    pub fn ends(&self) -> BTreeSet<i32> {
+        self.marks.iter().flat_map(Mark::ends).collect()
     }
 
-    /// The lowest of refusals 9 to 12 that applies.
+    /// The first of refusals 9 to 12 that applies.
     pub fn refusal(&self, record: &Record) -> Option<u32> {
         match record {
             Record::Rule(rule) if self.rules.contains(rule) => Some(9),
@@ -32,8 +33,9 @@ impl Held {
         if self.marks.len() >= MAX_MARKS {
             return Some(11);
         }
-        let depths = self.depths();
-        (depths.len() >= MAX_DEPTHS && !depths.contains(&mark.depth)).then_some(12)
+        let mut ends = self.ends();
+        ends.extend(mark.ends());
+        (ends.len() > MAX_DEPTHS).then_some(12)
     }
 
     /// Carries out an accepted record; questions change nothing.
@@ -57,7 +59,7 @@ impl Held {
             && marks.len() == self.marks.len()
             && rules.len() <= MAX_RULES
             && marks.len() <= MAX_MARKS
-            && self.depths().len() <= MAX_DEPTHS
+            && self.ends().len() <= MAX_DEPTHS
             && puts.all(|record| record.refusal().is_none())
             && learned.all(|record| record.refusal().is_none())
     }

@@ -26,6 +26,13 @@ pub fn listing(input: &[u8]) -> String {
     lines
 }
 
+/// The lines without their numbers, for tests.
+pub fn answers(input: &[u8]) -> Vec<String> {
+    let lines = listing(input);
+    let bare = lines.lines().map(|line| line.split_once(' '));
+    bare.flatten().map(|(_, said)| said.to_string()).collect()
+}
+
 fn span_text(memory: &Memory, answer: Answer) -> String {
     let Answer::Spans(count) = answer else {
         return String::new();

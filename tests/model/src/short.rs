@@ -36,11 +36,24 @@ pub fn link(from: u8, kind: u8, to: u8) -> Fact {
 }
 
 pub fn put(fact: Fact, depth: i32) -> Record {
-    Record::Put(Mark { fact, depth })
+    Record::Put(Mark::point(fact, depth))
 }
 
 pub fn take(fact: Fact, depth: i32) -> Record {
-    Record::Take(Mark { fact, depth })
+    Record::Take(Mark::point(fact, depth))
+}
+
+/// A mark from top to bottom.
+pub fn from_to(fact: Fact, top: i32, bottom: i32) -> Mark {
+    Mark { fact, top, bottom }
+}
+
+pub fn put_from_to(fact: Fact, top: i32, bottom: i32) -> Record {
+    Record::Put(from_to(fact, top, bottom))
+}
+
+pub fn take_from_to(fact: Fact, top: i32, bottom: i32) -> Record {
+    Record::Take(from_to(fact, top, bottom))
 }
 
 pub fn query(fact: Fact, depth: i64) -> Record {

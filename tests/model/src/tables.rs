@@ -10,10 +10,10 @@ pub const PIECES: usize = 193;
 pub const LABEL_ENTRIES: usize = 16 * PIECES;
 pub const LINK_ENTRIES: usize = 16 * 16 * PIECES;
 
-/// One depth for each piece, shallow to deep. A piece is a marked depth or starts behind one,
-/// but for the first, which ends before the least.
+/// One depth for each piece, shallow to deep. A piece is a marked depth, which is an end of a
+/// mark, or starts behind one, but for the first, which ends before the least.
 pub fn representatives(held: &Held) -> Vec<i64> {
-    let marked: BTreeSet<i64> = held.depths().into_iter().map(i64::from).collect();
+    let marked: BTreeSet<i64> = held.ends().into_iter().map(i64::from).collect();
     let first = marked.first().map_or(0, |least| least - 1);
     let behind: BTreeSet<i64> = marked.iter().map(|depth| depth + 1).collect();
     let mut all = &marked | &behind;

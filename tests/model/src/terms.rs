@@ -13,6 +13,11 @@ pub const MAX_N: u32 = 300_000;
 pub const SHALLOWEST: i32 = -10_000;
 pub const DEEPEST: i32 = 200_000;
 
+/// The refusal numbers in the order in which they are tested: 14 stands directly after 8.
+pub const REFUSALS: [u32; 13] = [1, 2, 3, 4, 5, 6, 7, 8, 14, 9, 10, 11, 12];
+/// As many places as an array by refusal number needs.
+pub const REFUSAL_PLACES: usize = 15;
+
 /// All ordered pairs of items.
 pub fn pairs() -> impl Iterator<Item = (u8, u8)> {
     (0..ITEMS).flat_map(|from| (0..ITEMS).map(move |to| (from, to)))
@@ -55,10 +60,32 @@ pub enum Fact {
     Link { from: u8, kind: u8, to: u8 },
 }
 
+/// True at each depth from top to bottom, both included.
 #[derive(Clone, Copy, Debug, PartialEq, Eq, Hash)]
 pub struct Mark {
     pub fact: Fact,
-    pub depth: i32,
+    pub top: i32,
+    pub bottom: i32,
+}
+
+impl Mark {
+    /// A mark with both ends equal.
+    pub fn point(fact: Fact, depth: i32) -> Mark {
+        Mark {
+            fact,
+            top: depth,
+            bottom: depth,
+        }
+    }
+
+    pub fn is_point(&self) -> bool {
+        self.top == self.bottom
+    }
+
+    /// The depths that it marks; those in between are not marked.
+    pub fn ends(&self) -> [i32; 2] {
+        [self.top, self.bottom]
+    }
 }
 
 #[derive(Clone, Copy, Debug, PartialEq, Eq)]
@@ -72,10 +99,15 @@ pub enum Record {
 }
 
 impl Record {
-    /// The lowest of refusals 6, 7 and 8 that applies.
+    /// The first of refusals 6, 7, 8 and 14, in this order, that applies.
     pub fn refusal(&self) -> Option<u32> {
-        let cases = [(6, self.names()), (7, self.operator()), (8, self.depth())];
-        let broken = cases.into_iter().find(|&(_, in_range)| !in_range);
+        let cases = [
+            (6, self.names()),
+            (7, self.operator()),
+            (8, self.depths()),
+            (14, self.upright()),
+        ];
+        let broken = cases.into_iter().find(|&(_, in_order)| !in_order);
         broken.map(|(number, _)| number)
     }
 
@@ -96,9 +128,18 @@ impl Record {
         }
     }
 
-    fn depth(&self) -> bool {
+    fn depths(&self) -> bool {
+        let in_range = |end: &i32| (SHALLOWEST..=DEEPEST).contains(end);
         match self {
-            Record::Put(mark) | Record::Take(mark) => (SHALLOWEST..=DEEPEST).contains(&mark.depth),
+            Record::Put(mark) | Record::Take(mark) => mark.ends().iter().all(in_range),
+            _ => true,
+        }
+    }
+
+    /// No top deeper than its bottom.
+    fn upright(&self) -> bool {
+        match self {
+            Record::Put(mark) | Record::Take(mark) => mark.top <= mark.bottom,
             _ => true,
         }
     }

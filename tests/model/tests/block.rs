@@ -1,15 +1,23 @@
 //! Lent memory: the block's encoding, lists at their limits, and the order of refusals.
 
-use model::block::{decode, encode, MARKS_AT, RULES_AT, SIZE};
+use model::block::{decode, encode, MARKS_AT, MARK_PLACE, RULES_AT, SIZE};
 use model::frame::{bytes, framed};
 use model::held::Held;
 use model::service::{record, spans_of, Lent, Memory};
+use model::short::{from_to, has, link};
 use model::tables::representatives;
 use model::terms::*;
 
 fn mark(label: u8, depth: i32) -> Mark {
-    let fact = Fact::Label { item: 0, label };
-    Mark { fact, depth }
+    Mark::point(has(0, label), depth)
+}
+
+/// The marks alone, without rules.
+fn marked(marks: impl IntoIterator<Item = Mark>) -> Held {
+    Held {
+        rules: vec![],
+        marks: marks.into_iter().collect(),
+    }
 }
 
 fn rule(number: usize) -> Rule {
@@ -43,6 +51,10 @@ fn lists_at_their_limits() {
     assert_eq!(put(1, 0), Answer::Refused(9));
     assert_eq!(put(9, 0), Answer::Refused(11));
     assert_eq!(put(9, 5_000), Answer::Refused(11));
+    let stretch = |top, bottom| call(&held, &Record::Put(from_to(has(0, 1), top, bottom)));
+    assert_eq!(stretch(0, 1), Answer::Refused(11));
+    assert_eq!(stretch(1, 0), Answer::Refused(14));
+    assert_eq!(stretch(DEEPEST + 1, 0), Answer::Refused(8));
     assert_eq!(call(&held, &Record::Rule(rule(0))), Answer::Refused(9));
     assert_eq!(call(&held, &Record::Rule(rule(300))), Answer::Refused(11));
 }
@@ -62,6 +74,55 @@ fn good_blocks_are_read_back() {
     let held = full();
     assert_eq!(decode(&encode(&held)), Some(held));
     assert_eq!(decode(&[0; SIZE]), Some(Held::default()));
+    let stretches = marked((0..48).map(|i| from_to(has(3, 5), 7 * i - 100, 7 * i - 96)));
+    assert_eq!(decode(&encode(&stretches)), Some(stretches));
+}
+
+/// Every byte of a block with one mark of each sort, a point among them.
+#[test]
+fn places_of_the_block() {
+    let held = marked([
+        from_to(has(3, 7), SHALLOWEST, DEEPEST),
+        from_to(link(2, 5, 15), -1, 256),
+        mark(62, -2),
+    ]);
+    let places = [
+        [6, 3, 7, 0, 0xf0, 0xd8, 0xff, 0xff, 0x40, 0x0d, 0x03, 0x00],
+        [7, 2, 5, 15, 0xff, 0xff, 0xff, 0xff, 0x00, 0x01, 0x00, 0x00],
+        [6, 0, 62, 0, 0xfe, 0xff, 0xff, 0xff, 0xfe, 0xff, 0xff, 0xff],
+    ];
+    let mut block = [0; 4_128];
+    block[2] = 3;
+    block[1_056..1_092].copy_from_slice(&places.concat());
+    assert_eq!(encode(&held), block);
+    assert_eq!(decode(&block), Some(held));
+}
+
+/// A byte of the second of two stretches that no record leads to.
+#[test]
+fn bad_bytes_of_a_place_are_seen() {
+    let held = marked([from_to(has(0, 1), 5, 9), from_to(has(0, 1), 5, 8)]);
+    let place = MARKS_AT + MARK_PLACE;
+    let bad = [
+        (0, 13),
+        (0, 0),
+        (2, NEVER),
+        (3, 1),
+        (4, 9),
+        (6, 4),
+        (7, 0x80),
+        (8, 4),
+        (8, 9),
+        (10, 4),
+        (11, 0x80),
+        (12, 6),
+    ];
+    let changed = bad.map(|(at, value)| {
+        let mut block = encode(&held);
+        block[place + at] = value;
+        decode(&block)
+    });
+    assert!(changed.iter().all(Option::is_none));
 }
 
 #[test]
@@ -69,7 +130,15 @@ fn stray_bytes_are_seen() {
     let mut held = full();
     held.rules.pop();
     held.marks.pop();
-    let stray = [4, 31, RULES_AT + 7, MARKS_AT - 1, MARKS_AT + 3, SIZE - 1];
+    let stray = [
+        4,
+        31,
+        RULES_AT + 7,
+        MARKS_AT - 1,
+        MARKS_AT + 3,
+        SIZE - 12,
+        SIZE - 1,
+    ];
     let changed = stray.map(|at| {
         let mut block = encode(&held);
         block[at] += 1;
@@ -84,15 +153,17 @@ fn unreachable_lists_are_seen() {
         rules: vec![rule(0), rule(0)],
         marks: vec![],
     };
-    let deep = Held {
-        rules: vec![],
-        marks: (0..97).map(|depth| mark(1, depth)).collect(),
-    };
-    let marked_every = Held {
-        rules: vec![],
-        marks: vec![mark(EVERY, 0)],
-    };
-    let lists = [double, deep, marked_every];
+    let lists = [
+        double,
+        marked((0..97).map(|depth| mark(1, depth))),
+        // 48 stretches with 96 ends, and a point.
+        marked((0..49).map(|i| from_to(has(0, 1), 9 * i, 9 * i + i32::from(i < 48)))),
+        marked([mark(EVERY, 0)]),
+        marked([from_to(has(0, 1), 8, 7)]),
+        marked([from_to(has(0, 1), 8, DEEPEST + 1)]),
+        marked([from_to(link(0, 0, 0), SHALLOWEST - 1, 8)]),
+        marked([mark(1, 3), from_to(has(0, 1), 3, 3)]),
+    ];
     assert!(lists.iter().all(|held| decode(&encode(held)).is_none()));
 }
 
@@ -141,16 +212,24 @@ fn the_span_call_takes_any_number() {
 
 #[test]
 fn pieces_of_the_line() {
-    let at = |depths: &[i32]| {
-        let marks = depths.iter().map(|&depth| mark(1, depth));
-        representatives(&Held {
-            rules: vec![],
-            marks: marks.collect(),
-        })
-    };
+    let at = |depths: &[i32]| representatives(&marked(depths.iter().map(|&d| mark(1, d))));
     assert_eq!(at(&[]), [0]);
     assert_eq!(at(&[6, 5]), [4, 5, 6, 7]);
     assert_eq!(at(&[5, 9]), [4, 5, 6, 9, 10]);
     let spread: Vec<i32> = (0..96).map(|i| 2 * i).collect();
+    assert_eq!(at(&spread).len(), 193);
+}
+
+/// The ends are pieces; what lies inside a stretch is one piece, unless another mark ends there.
+#[test]
+fn pieces_of_stretches() {
+    let at = |ends: &[(i32, i32)]| {
+        representatives(&marked(ends.iter().map(|&(t, b)| from_to(has(0, 1), t, b))))
+    };
+    assert_eq!(at(&[(100, 110)]), [99, 100, 101, 110, 111]);
+    assert_eq!(at(&[(5, 6)]), [4, 5, 6, 7]);
+    assert_eq!(at(&[(10, 20), (21, 30)]), [9, 10, 11, 20, 21, 22, 30, 31]);
+    assert_eq!(at(&[(10, 30), (10, 20)]), [9, 10, 11, 20, 21, 30, 31]);
+    let spread: Vec<_> = (0..48).map(|i| (4 * i, 4 * i + 2)).collect();
     assert_eq!(at(&spread).len(), 193);
 }

@@ -2,7 +2,7 @@
 
 use model::depths::Depths;
 use model::frame::bytes;
-use model::listing::{listing, MAX_INPUT};
+use model::listing::{self, listing, MAX_INPUT};
 use model::short::*;
 use model::terms::*;
 
@@ -11,12 +11,8 @@ fn set(depths: &[i64]) -> Depths {
     single.fold(Depths::default(), |all, one| all.union(&one))
 }
 
-/// The listing of the records, without the lines' numbers.
 fn answers(records: &[Record]) -> Vec<String> {
-    let input: Vec<u8> = records.iter().flat_map(bytes).collect();
-    let lines = listing(&input);
-    let bare = lines.lines().map(|line| line.split_once(' ').unwrap().1);
-    bare.map(str::to_string).collect()
+    listing::answers(&records.iter().flat_map(bytes).collect::<Vec<u8>>())
 }
 
 fn last(records: &[Record]) -> String {

@@ -1,10 +1,9 @@
-//! Checks the model on the worked examples of the papers, whose answers were written by hand,
-//! and writes each as `.records` and `.listing` for the program.
+//! Checks the model on the worked examples of the papers and requests, whose answers were written
+//! by hand, and writes each as `.records` and `.listing` for the program.
 //! Arguments: the folder of the examples and the folder to write into.
 
 mod text;
 
-use model::frame::bytes;
 use model::listing::listing;
 use std::path::{Path, PathBuf};
 use std::process::ExitCode;
@@ -29,13 +28,12 @@ fn difference(given: &str, expected: &str) -> String {
 fn check(path: &Path, out: &Path) -> Result<(), String> {
     let source = std::fs::read_to_string(path).map_err(|error| error.to_string())?;
     let example = text::read(&source)?;
-    let stream: Vec<u8> = example.records.iter().flat_map(bytes).collect();
-    let given = listing(&stream);
+    let given = listing(&example.stream);
     if given != example.listing {
         return Err(difference(&given, &example.listing));
     }
     let file = out.join(path.file_name().unwrap_or_default());
-    std::fs::write(file.with_extension("records"), stream)
+    std::fs::write(file.with_extension("records"), example.stream)
         .and_then(|()| std::fs::write(file.with_extension("listing"), given))
         .map_err(|error| error.to_string())
 }

@@ -1,13 +1,18 @@
 //! Streams as text: one record on a line, ` => ` and the answer that it must get.
 //! `name WORD NUMBER` gives an item, label or link kind a name; `#` starts a comment.
+//! A mark at one depth is put and taken by the kinds 6 to 9, `from TOP to BOTTOM` by 13 to 16.
 
+use model::frame::{bytes, wide_bytes};
 use model::short::*;
 use model::terms::*;
 use std::collections::HashMap;
 
+#[derive(Default)]
 pub struct Example {
-    pub records: Vec<Record>,
+    /// The records' bytes.
+    pub stream: Vec<u8>,
     pub listing: String,
+    records: usize,
 }
 
 struct Line<'a> {
@@ -62,23 +67,50 @@ impl Line<'_> {
         Ok(link(self.small()?, self.small()?, self.small()?))
     }
 
-    fn record(&mut self) -> Result<Record, String> {
-        let kind = self.word()?.to_string();
-        Ok(match kind.as_str() {
+    fn expect(&mut self, wanted: &str) -> Result<(), String> {
+        match self.word()? {
+            word if word == wanted => Ok(()),
+            other => Err(format!("{other} where {wanted} belongs")),
+        }
+    }
+
+    /// A record about a mark, from its depths on.
+    fn mark(&mut self, fact: Fact, record: fn(Mark) -> Record) -> Result<Vec<u8>, String> {
+        if self.words.clone().next() != Some("from") {
+            return Ok(bytes(&record(Mark::point(fact, self.depth()?))));
+        }
+        self.expect("from")?;
+        let top = self.depth()?;
+        self.expect("to")?;
+        let mark = from_to(fact, top, self.depth()?);
+        Ok(wide_bytes(&record(mark)))
+    }
+
+    /// A record that is not about a mark.
+    fn other(&mut self, kind: &str) -> Result<Record, String> {
+        Ok(match kind {
             "reset" => Record::Reset,
             "label" => label(self.operator()?, self.small()?, self.small()?),
             "both" => both(self.small()?, self.small()?, self.small()?),
             "linkrule" => link_rule(self.operator()?, self.small()?, self.small()?),
             "via" => via(self.small()?, self.small()?, self.small()?),
-            "put" => put(self.label()?, self.depth()?),
-            "putlink" => put(self.link()?, self.depth()?),
-            "take" => take(self.label()?, self.depth()?),
-            "takelink" => take(self.link()?, self.depth()?),
             "query" => query(self.label()?, self.number()?),
             "querylink" => query(self.link()?, self.number()?),
             "spans" => spans(self.small()?, self.small()?),
             other => return Err(format!("{other} is no record")),
         })
+    }
+
+    /// The bytes of the record that the line says.
+    fn record(&mut self) -> Result<Vec<u8>, String> {
+        let kind = self.word()?.to_string();
+        match kind.as_str() {
+            "put" => self.label().and_then(|fact| self.mark(fact, Record::Put)),
+            "putlink" => self.link().and_then(|fact| self.mark(fact, Record::Put)),
+            "take" => self.label().and_then(|fact| self.mark(fact, Record::Take)),
+            "takelink" => self.link().and_then(|fact| self.mark(fact, Record::Take)),
+            other => Ok(bytes(&self.other(other)?)),
+        }
     }
 }
 
@@ -100,8 +132,9 @@ fn read_line(
     if answer.is_empty() || line.words.next().is_some() {
         return Err(format!("{said}: no answer, or too many words"));
     }
-    example.records.push(record);
-    example.listing += &format!("{} {}\n", example.records.len(), answer.trim());
+    example.stream.extend(record);
+    example.records += 1;
+    example.listing += &format!("{} {}\n", example.records, answer.trim());
     Ok(())
 }
 
@@ -109,10 +142,7 @@ pub fn read(text: &str) -> Result<Example, String> {
     let known = [("EVERY", EVERY), ("NEVER", NEVER)];
     let known = known.map(|(word, label)| (word.to_string(), i64::from(label)));
     let mut names = HashMap::from(known);
-    let mut example = Example {
-        records: Vec::new(),
-        listing: String::new(),
-    };
+    let mut example = Example::default();
     for (place, line) in text.lines().enumerate() {
         let said = line.split('#').next().unwrap_or_default().trim();
         if !said.is_empty() {

@@ -1,14 +1,14 @@
 //! The specification's cases at the edges, as steps of one script.
 
 use crate::script::{Part, Script, WHOLE};
-use model::block::{MARKS_AT, RULES_AT, SIZE};
+use model::block::{MARKS_AT, MARK_PLACE, RULES_AT, SIZE};
 use model::frame::{bytes, framed};
 use model::service::Lent;
 use model::short::*;
 use model::terms::*;
 
 /// Tables and span buffer hold something, so that a stray write shows.
-fn refill(script: &mut Script) {
+pub fn refill(script: &mut Script) {
     script.fill(Part::Labels, 3);
     script.fill(Part::Links, 5);
     script.fill(Part::Spans, 7);
@@ -17,7 +17,7 @@ fn refill(script: &mut Script) {
 /// The same for the block's tail.
 pub fn patterns(script: &mut Script) {
     refill(script);
-    [(SIZE, 1), (SIZE + 1, 2), (3_500, 3), (4_095, 4)]
+    [(SIZE, 1), (SIZE + 1, 2), (4_500, 3), (5_119, 4)]
         .into_iter()
         .for_each(|(place, value)| script.poke(place, value));
 }
@@ -29,7 +29,7 @@ pub fn example(script: &mut Script) {
 
 /// Refusals 3 to 5, on a block that holds something.
 pub fn refused_frames(script: &mut Script) {
-    let frames: [&[u8]; 10] = [
+    let frames: [&[u8]; 15] = [
         &[2],
         &[2, 0, 1],
         &[1, 0, 1, 0],
@@ -37,8 +37,13 @@ pub fn refused_frames(script: &mut Script) {
         &[3, 0, 1, 0],
         &[255, 255, 12, 0, 0, 0],
         &framed(0, &[]),
-        &framed(13, &[0; 4]),
+        &framed(17, &[0; 4]),
         &framed(0x010a, &[0; 10]),
+        &framed(0x010d, &[0; 10]),
+        &framed(13, &[0; 6]),
+        &framed(14, &[0; 10]),
+        &framed(15, &[0; 11]),
+        &framed(16, &[0; 12]),
         &framed(12, &[0; 3]),
     ];
     refill(script);
@@ -115,7 +120,7 @@ pub fn short_memory(script: &mut Script) {
 }
 
 /// Places of the block and values there that no run of records leads to.
-const BAD: [(usize, u8); 18] = [
+const BAD: [(usize, u8); 19] = [
     (0, 2),
     (0, 129),
     (1, 1),
@@ -128,6 +133,7 @@ const BAD: [(usize, u8); 18] = [
     (RULES_AT + 4, 1),
     (RULES_AT + 8, 1),
     (MARKS_AT, 5),
+    (MARKS_AT, 13),
     (MARKS_AT + 2, NEVER),
     (MARKS_AT + 3, 1),
     (MARKS_AT + 4, 11),
@@ -330,20 +336,15 @@ pub fn full_lists(script: &mut Script) {
 
 /// A block with a 97th mark at a 97th depth, and then the block of 96 again.
 fn one_depth_too_many(script: &mut Script) {
-    let place = MARKS_AT + 96 * 8;
+    let place = MARKS_AT + 96 * MARK_PLACE;
     let change = [
-        (2, 97, 96),
-        (place, 6, 0),
-        (place + 2, 5, 0),
-        (place + 4, 7, 0),
+        (2, 97),
+        (place, 6),
+        (place + 2, 5),
+        (place + 4, 7),
+        (place + 8, 7),
     ];
-    change
-        .iter()
-        .for_each(|&(at, value, _)| script.poke(at, value));
-    script.send(&spans(0, 1));
-    change
-        .iter()
-        .for_each(|&(at, _, kept)| script.poke(at, kept));
+    script.spoiled_all(&change, &spans(0, 1));
 }
 
 pub fn all_depths(script: &mut Script) {

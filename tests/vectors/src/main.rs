@@ -2,7 +2,9 @@
 
 mod cases;
 mod script;
+mod stretches;
 
+use model::terms::{Record, REFUSALS};
 use script::Script;
 use std::path::PathBuf;
 
@@ -24,9 +26,18 @@ fn build() -> Script {
         cases::contradictions,
         cases::full_lists,
         cases::all_depths,
+        stretches::operators,
+        stretches::beside_each_other,
+        stretches::either_kind,
+        stretches::refused_bodies,
+        stretches::ends_of_the_range,
+        stretches::links,
+        stretches::bad_blocks,
+        stretches::all_ends,
+        stretches::full_list,
     ];
     cases.into_iter().for_each(|case| case(&mut script));
-    script.send(&model::terms::Record::Reset);
+    script.send(&Record::Reset);
     script.call(&script::WHOLE, &[]);
     script
 }
@@ -35,7 +46,8 @@ fn main() -> std::io::Result<()> {
     let folder = PathBuf::from(std::env::args().nth(1).expect("the folder to write into"));
     let script = build();
     assert!(script.steps.len() <= MAX_SCRIPT, "the script is too long");
-    let rare: Vec<usize> = (1..13).filter(|&no| script.refusals[no] < 2).collect();
+    let mut rare = REFUSALS.to_vec();
+    rare.retain(|&number| script.refusals[number as usize] < 2);
     assert!(rare.is_empty(), "refusals {rare:?} come up too seldom");
     std::fs::write(folder.join("stdin"), &script.steps)?;
     std::fs::write(folder.join("stdout"), &script.lines)

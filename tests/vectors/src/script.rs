@@ -1,11 +1,11 @@
 //! A script of steps for the test program, carried out on the model while it is written.
 
-use model::frame::bytes;
+use model::frame::{bytes, wide_bytes};
 use model::service::{record, spans_of, Lent, Memory};
-use model::terms::{Answer, Record};
+use model::terms::{Answer, Record, REFUSAL_PLACES};
 
 pub const WHOLE: Lent = Lent {
-    block: 4_096,
+    block: 5_120,
     labels: 3_200,
     links: 50_000,
     spans: 256,
@@ -29,7 +29,7 @@ pub enum Part {
 pub struct Script {
     pub steps: Vec<u8>,
     pub lines: String,
-    pub refusals: [u32; 13],
+    pub refusals: [u32; REFUSAL_PLACES],
     memory: Memory,
     calls: u32,
 }
@@ -49,7 +49,7 @@ impl Script {
         Script {
             steps: Vec::new(),
             lines: String::new(),
-            refusals: [0; 13],
+            refusals: [0; REFUSAL_PLACES],
             memory: Memory::zeros(WHOLE),
             calls: 0,
         }
@@ -69,6 +69,11 @@ impl Script {
     /// A record call with everything lent.
     pub fn send(&mut self, input: &Record) -> Answer {
         self.call(&WHOLE, &bytes(input))
+    }
+
+    /// The same with a mark by the kinds 13 to 16.
+    pub fn send_wide(&mut self, input: &Record) -> Answer {
+        self.call(&WHOLE, &wide_bytes(input))
     }
 
     pub fn send_all(&mut self, inputs: impl IntoIterator<Item = Record>) {
@@ -109,12 +114,26 @@ impl Script {
         self.memory.block[place] = value;
     }
 
-    /// Pokes a value, makes a call, and puts back what stood there.
-    pub fn spoiled(&mut self, place: usize, value: u8, input: &Record) {
-        let kept = self.memory.block[place];
-        self.poke(place, value);
+    /// Pokes values, makes a call, and puts back what stood there.
+    pub fn spoiled_all(&mut self, changes: &[(usize, u8)], input: &Record) {
+        let kept: Vec<_> = changes
+            .iter()
+            .map(|&(place, _)| (place, self.memory.block[place]))
+            .collect();
+        self.poke_all(changes);
         self.send(input);
-        self.poke(place, kept);
+        self.poke_all(&kept);
+    }
+
+    /// The same with one place.
+    pub fn spoiled(&mut self, place: usize, value: u8, input: &Record) {
+        self.spoiled_all(&[(place, value)], input);
+    }
+
+    fn poke_all(&mut self, changes: &[(usize, u8)]) {
+        changes
+            .iter()
+            .for_each(|&(place, value)| self.poke(place, value));
     }
 
     fn line(&mut self, answer: Answer, used: u64) {
