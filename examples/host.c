@@ -1,7 +1,7 @@
 /*
  * A host program: lends its memory to the library, feeds it a small section record by record and prints what it says.
- * The section is the worked example of the specification, then a question beside the records, and calls with null pointers
- * where the length is 0.
+ * The section is the worked example of the specification, then a question beside the records, calls with null pointers
+ * where the length is 0, and at last a mark with top and bottom.
  */
 #include <harmikse.h>
 
@@ -54,6 +54,16 @@ static void put_label(uint8_t item, uint8_t label, int32_t depth)
     put_number(item, 1);
     put_number(label, 1);
     put_number((uint32_t)depth, 4);
+}
+
+/* A mark from top to bottom. */
+static void put_stretch(uint8_t item, uint8_t label, int32_t top, int32_t bottom)
+{
+    begin(13, 10);
+    put_number(item, 1);
+    put_number(label, 1);
+    put_number((uint32_t)top, 4);
+    put_number((uint32_t)bottom, 4);
 }
 
 static void query_label(uint8_t item, uint8_t label, int64_t depth)
@@ -132,24 +142,45 @@ static void write_section(void)
     put_label(0, 1, 100);
 }
 
-int main(void)
+/* A caliper saw label 5 from 130 to 140; the last record has top and bottom the wrong way round. */
+static void write_stretch(void)
 {
-    size_t at = 0;
+    put_stretch(0, 5, 130, 140);
+    query_label(0, 5, 135);
+    ask_spans(0, 5);
+    put_stretch(0, 5, 140, 130);
+}
 
-    write_section();
-    for (int number = 1; at < stream_len; number++) {
+/* Hands over what is left of the stream, record by record; fails where a record is not used. */
+static int feed(void)
+{
+    static size_t at;
+    static int number;
+
+    while (at < stream_len) {
         uint64_t used = 0;
         uint32_t result = harmikse_record(block, sizeof block, labels, HARMIKSE_LABEL_ENTRIES, links, sizeof links,
                                           spans, HARMIKSE_SPAN_NUMBERS, stream + at, stream_len - at, &used);
 
-        printf("%d ", number);
+        printf("%d ", ++number);
         print_result(result);
         if (used == 0)
             return 1;
         at += (size_t)used;
     }
+    return 0;
+}
+
+int main(void)
+{
+    write_section();
+    if (feed() != 0)
+        return 1;
     printf("beside the records: ");
     print_result(harmikse_spans(block, sizeof block, labels, HARMIKSE_LABEL_ENTRIES, links, sizeof links, spans,
                                 HARMIKSE_SPAN_NUMBERS, 0, 0));
-    return lend_nothing();
+    if (lend_nothing() != 0)
+        return 1;
+    write_stretch();
+    return feed();
 }

@@ -4,8 +4,9 @@
  * The caller lends four pieces of memory and the bytes of a record; the library holds nothing between calls, allocates
  * nothing and has no global state. It needs memcpy and memset, and nothing else of the C library.
  *
- *   block   the state: every rule and mark accepted so far. All zeros is the empty state. Keep it from call to call and
- *           write it with nothing else: a block that no run of records leads to is refused with 2.
+ *   block   the state: every rule and mark accepted since the last RESET and not taken since. All zeros is the empty
+ *           state. Keep it from call to call and write it with nothing else: a block that no run of records leads to is
+ *           refused with 2.
  *   labels  the label table, 64-bit numbers: entry item * 193 + piece, bit = label.
  *   links   the link table, bytes: entry (from * 16 + to) * 193 + piece, bit = link kind.
  *   spans   the span buffer: pairs of top and bottom, in centimetres.
@@ -21,7 +22,14 @@
  * call until it returns; a block belongs to one call at a time. harmikse_spans only reads the block, so calls of it may
  * share a block while no harmikse_record has it, each with tables and span buffer of its own.
  *
- * Stack: leave 160 KiB for a call (HARMIKSE_STACK_BYTES).
+ * Marks: a mark has a top and a bottom, from -10,000 to 200,000 cm, and is true at each depth from one to the other.
+ * Kinds 6 and 7 put a label and a link with both at one depth, and kinds 8 and 9 take them. Kinds 13 and 14 put a
+ * label and a link with top and bottom, 4 bytes signed each, behind the names, and kinds 15 and 16 take them; their
+ * lengths are 12, 13, 12 and 13. Two marks are the same if all their fields are, by whichever kind they come: kind 8
+ * takes what kind 13 put with both ends equal. At most 96 depths are marked: tops and bottoms, each depth once; what
+ * lies between is not marked.
+ *
+ * Stack: leave 176 KiB for a call (HARMIKSE_STACK_BYTES).
  *
  * Refusals leave all lent memory unchanged. After a question (yes, no, contradiction, spans) both tables show what the
  * held marks and rules derive; after anything else they are as lent. Only an answer of spans writes the span buffer.
@@ -37,7 +45,7 @@ extern "C" {
 #endif
 
 /* The least lengths, in elements. */
-#define HARMIKSE_BLOCK_BYTES 3104
+#define HARMIKSE_BLOCK_BYTES 4128
 #define HARMIKSE_LABEL_ENTRIES 3088
 #define HARMIKSE_LINK_BYTES 49408
 #define HARMIKSE_SPAN_NUMBERS 194
@@ -51,7 +59,7 @@ extern "C" {
 #define HARMIKSE_NO_BOTTOM INT32_MAX
 
 /* Room on the stack for a call. */
-#define HARMIKSE_STACK_BYTES 163840
+#define HARMIKSE_STACK_BYTES 180224
 
 /* What a call returns: the answer's number in the upper half, its value in the lower. */
 #define HARMIKSE_ANSWER(result) ((uint32_t)(result) >> 16)
@@ -63,10 +71,11 @@ enum harmikse_answer {
     HARMIKSE_NO = 2,
     HARMIKSE_CONTRADICTION = 3, /* value: the lowest item that has NEVER */
     HARMIKSE_SPANS = 4,         /* value: how many pairs were written */
-    HARMIKSE_END = 5,           /* no byte was left */
+    HARMIKSE_END = 5,           /* no byte was left, and neither 1 nor 2 applies */
     HARMIKSE_REFUSED = 6        /* value: one of the numbers below */
 };
 
+/* Where several apply, the first in the order 1 to 8, 14, 9 to 12 is given; end stands between 2 and 3. */
 enum harmikse_refusal {
     HARMIKSE_SHORT_MEMORY = 1,   /* block, a table or span buffer too short */
     HARMIKSE_BAD_BLOCK = 2,      /* a block that no run of records from all zeros leads to */
@@ -75,17 +84,18 @@ enum harmikse_refusal {
     HARMIKSE_WRONG_LENGTH = 5,   /* length not that of the kind */
     HARMIKSE_BAD_NAME = 6,       /* an item, label or link kind out of range */
     HARMIKSE_BAD_OPERATOR = 7,   /* code or n out of range */
-    HARMIKSE_BAD_DEPTH = 8,      /* a mark's depth out of range */
+    HARMIKSE_BAD_DEPTH = 8,      /* a mark's depth, top or bottom out of range */
     HARMIKSE_ALREADY_HELD = 9,   /* a rule, or a mark to put */
     HARMIKSE_NOT_HELD = 10,      /* a mark to take */
     HARMIKSE_LIST_FULL = 11,     /* 128 rules or 256 marks */
-    HARMIKSE_DEPTHS_FULL = 12    /* a mark at a 97th depth */
+    HARMIKSE_DEPTHS_FULL = 12,   /* a mark with which tops and bottoms would be at more than 96 depths */
+    HARMIKSE_BAD_STRETCH = 14    /* a mark's top deeper than its bottom; tested after 8 and before 9 */
 };
 
 /*
  * Takes one record from the start of the input, where input is all the bytes that are left, and says in *used how many
- * bytes it used: go on with input + *used. 0 bytes are used for the refusals 1 and 2 and for end, all that is left for 3.
- * Where no byte is left input may be NULL.
+ * bytes it used: go on with input + *used. 0 bytes are used for the refusals 1 and 2 and for end, all that is left for 3;
+ * for every other refusal and every accepted record its length field + 2. Where no byte is left input may be NULL.
  */
 uint32_t harmikse_record(uint8_t *block, size_t block_len,
                          uint64_t *labels, size_t labels_len,
