@@ -3,3 +3,4 @@ pub mod Parsed
 pub mod Records
 pub mod Frame
 pub mod Proper
+pub mod Either
