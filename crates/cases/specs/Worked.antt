@@ -1,4 +1,5 @@
--- The cases that 01 marks P are decided as it says, and 02's beside them: one theorem, about the definition by interpretations over all integers. Assumes nothing.
+-- The cases that 01 marks P are decided as it says, and 02's beside them: one theorem, about the definition by interpretations over all
+-- integers. Assumes nothing.
 use mathlib.Core.Path.{_≡_, refl, sym, subst}
 use mathlib.Core.Logic.{⊎-elim}
 use mathlib.Core.Bool.{Bool}

@@ -129,4 +129,9 @@ saidOf (Command.Ask q) = Asks q
 pub said-command : (k : ℕ) (b : List ℕ) → isUnknown (lengthsOf k) ≡ false → saidOf (commandIn k b) ≡ saidBy k b
 unfolding commandIn saidBy lengthsOf
 said-command k b =
-    by-kind (λ n. isUnknown (lengthsOf n) ≡ false → saidOf (commandIn n b) ≡ saidBy n b) numbers (λ e. refl, (λ e. refl, (λ e. refl, (λ e. refl, (λ e. refl, (λ e. refl, (λ e. refl, (λ e. refl, (λ e. refl, (λ e. refl, (λ e. refl, (λ e. refl, (λ e. refl, (λ e. refl, (λ e. refl, (λ e. refl, tt)))))))))))))))) k (λ v e. absurd (true≢false (sym (unknown emptyHeld k b v .1) ∙ e)))
+    by-kind (λ n. isUnknown (lengthsOf n) ≡ false → saidOf (commandIn n b) ≡ saidBy n b) numbers
+    (same, (same, (same, (same, (same, (same, (same, (same, (same, (same, (same, (same, (same, (same, (same, (same, tt)))))))))))))))) k
+    (λ v e. absurd (true≢false (sym (unknown emptyHeld k b v .1) ∙ e)))
+  where
+    same : {A : Type 0} {x : Said} → A → x ≡ x
+    same e = refl

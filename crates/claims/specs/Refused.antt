@@ -47,8 +47,27 @@ use Rattle.claims.specs.Kinds.{recordTests, record-rows, inputTests, inp
 
 record-ascends : (h : Held) (k : ℕ) (b : List ℕ) → Ascends (rank 6) (rank 12) (recordRows h k b)
 unfolding rank
-record-ascends h k b =
-    (omega arith, omega arith, (omega arith, omega arith, (omega arith, omega arith, (omega arith, omega arith, (omega arith, omega arith, (omega arith, omega arith, (omega arith, omega arith, (omega arith, omega arith, tt))))))))
+record-ascends h k b = (
+  omega arith,
+  omega arith,
+  (
+    omega arith,
+    omega arith,
+    (
+      omega arith,
+      omega arith,
+      (
+        omega arith,
+        omega arith,
+        (
+          omega arith,
+          omega arith,
+          (omega arith, omega arith, (omega arith, omega arith, (omega arith, omega arith, tt))),
+        ),
+      ),
+    ),
+  ),
+)
 
 input-ascends : (h : Held) (s : List ℕ) → Ascends (rank 3) (rank 12) (inputRows h s)
 unfolding rank
@@ -60,19 +79,25 @@ input-ascends h s = go (eqb (length s) 0)
     b : List ℕ
     b = bodyOf s
 
+    records : Ascends (rank 5) (rank 12) (recordRows h k b)
+    records = wider (rank 6) (rank 12) (rank 5) (rank 12) (recordRows h k b) (omega arith) (omega arith) (record-ascends h k b)
+
     go : (v : Bool) → Ascends (rank 3) (rank 12) (cond v [] (test (brokenFrame s) 3 ∷ test (unknownKind s) 4 ∷ test (wrongLength s) 5 ∷ recordRows h k b))
     go true = tt
     go false = (
       omega arith,
       omega arith,
-      (omega arith, omega arith, (omega arith, omega arith, wider (rank 6) (rank 12) (rank 5) (rank 12) (recordRows h k b) (omega arith) (omega arith) (record-ascends h k b))),
+      (omega arith, omega arith, (omega arith, omega arith, records)),
     )
 
 -- from the first to the last, whatever applies
 pub table-ascends : (a b : Bool) (h : Held) (s : List ℕ) → Ascends (rank 1) (rank 12) (table a b h s)
 unfolding rank
 table-ascends a b h s =
-    (omega arith, omega arith, (omega arith, omega arith, wider (rank 3) (rank 12) (rank 2) (rank 12) (inputRows h s) (omega arith) (omega arith) (input-ascends h s)))
+    (omega arith, omega arith, (omega arith, omega arith, inputs))
+  where
+    inputs : Ascends (rank 2) (rank 12) (inputRows h s)
+    inputs = wider (rank 3) (rank 12) (rank 2) (rank 12) (inputRows h s) (omega arith) (omega arith) (input-ascends h s)
 
 -- ---- what is left of the input, by its rows
 

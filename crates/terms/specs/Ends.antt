@@ -71,7 +71,8 @@ pub record End-of (ms : List Mark) (d : ℤ) : Type 0 where
 
 pub ends-only : (ms : List Mark) (d : ℤ) → d ∈ endsOf ms → End-of ms d
 ends-only [] d h = absurd (List·Memᴰ·not-nil h)
-ends-only (m ∷ ms) d h = ⊎-elim (λ e. here (inl e)) (λ n. ⊎-elim (λ e. here (inr e)) (λ k. later (ends-only ms d k)) (List·Memᴰ·cases-cons n)) (List·Memᴰ·cases-cons h)
+ends-only (m ∷ ms) d h =
+    ⊎-elim (λ e. here (inl e)) (λ n. ⊎-elim (λ e. here (inr e)) (λ k. later (ends-only ms d k)) (List·Memᴰ·cases-cons n)) (List·Memᴰ·cases-cons h)
   where
     here : (d ≡ m .top) ⊎ (d ≡ m .bottom) → End-of (m ∷ ms) d
     here e = record { mark = m; held = List·Memᴰ·head refl; end = e }
