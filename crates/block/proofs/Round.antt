@@ -63,7 +63,7 @@ use Rattle.block.specs.Block.{
   decode,
 }
 use Rattle.block.proofs.Tab.{tab-is, cat-get, length-cat}
-use Rattle.block.proofs.Sizes.{settings-size, rule-size, mark-size, length-zeros, length-padded}
+use Rattle.block.proofs.Sizes.{settings-size, rule-size, mark-size, length-padded}
 use Rattle.block.proofs.Pack.{zeros-add}
 use Rattle.block.proofs.Equal.{sameBytes-refl, sameBytes-true}
 

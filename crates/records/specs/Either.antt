@@ -1,6 +1,6 @@
 -- 02, Slip 2: a mark is the same by whichever kind it comes. Assumes nothing.
 use mathlib.Core.Path.{_≡_, refl}
-use mathlib.Core.List.{List, [], _∷_}
+use mathlib.Core.List.{[], _∷_}
 use Prim.Native.Nat.{ℕ}
 use Rattle.codec.specs.Bytes.{little}
 use Rattle.records.specs.Formats.{labelMark, linkMark, labelStretch, linkStretch}

@@ -13,7 +13,6 @@ use mir.ValLaws.{ofZ-fits, toZ-ofZ}
 use Rattle.codec.specs.Bytes.{little, bytes, bytesOfSigned32}
 use Rattle.codec.proofs.Laws.{little-bytes}
 use Rattle.terms.specs.declared.Operator.{Operator}
-use Rattle.terms.specs.declared.Operator.the-variants.{Within, Between, Above, Below, Anywhere}
 use Rattle.terms.specs.declared.OperatorRead.{OperatorRead}
 use Rattle.terms.specs.declared.OperatorRead.the-variants.{Valid, Invalid}
 use Rattle.terms.specs.declared.Rule.{Rule}
@@ -23,8 +22,6 @@ use Rattle.terms.specs.declared.Atom.the-variants.{Has, Linked}
 use Rattle.terms.specs.declared.Mark.{Mark}
 use Rattle.terms.specs.declared.Question.{Question}
 use Rattle.terms.specs.declared.Settings.{Settings}
-use Rattle.terms.specs.declared.Tested.{Tested}
-use Rattle.terms.specs.declared.Tested.the-variants as Tested
 use Rattle.terms.specs.Operators.{operatorOf, codeOf, distanceOf, isOperator, orIdentity}
 use Rattle.terms.specs.Readings.{ProperRead, read-proper, operator-read, distance-fits, depth-fits}
 use Rattle.terms.specs.Held.{isNamed, isRule, isMark, isMarkable, isPlaced, isOrdered, isQuestion}
@@ -41,7 +38,6 @@ use Rattle.records.specs.declared.Framed.the-variants as Framed
 use Rattle.records.specs.Parsed.{Parsed}
 use Rattle.records.specs.Parsed as Parsed
 use Rattle.records.specs.Records.{
-  namedTests,
   operatorTests,
   markTests,
   questionTests,

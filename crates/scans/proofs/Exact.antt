@@ -8,9 +8,6 @@ use borrow.Author.Tests.{eq-eqb}
 use lib.Dec.{T, eqb, eqb→eq, leb→le}
 use lib.IntN.{ℤ, pos, negsuc}
 use lib.Signed.{leZ}
-use mir.Syntax.{w32}
-use mir.Val.{SFits, toZ, ofZ}
-use mir.ValLaws.{toZ-ofZ}
 use Rattle.terms.specs.declared.Operator.{Operator}
 use Rattle.terms.specs.declared.Operator.the-variants.{Within, Between, Above, Below, Anywhere}
 use Rattle.terms.specs.declared.Rule.{Rule}
@@ -21,6 +18,7 @@ use Rattle.terms.specs.declared.Mark.{Mark}
 use Rattle.terms.specs.Operators.{codeOf, distanceOf}
 use Rattle.terms.specs.Tests.{and-both, both-and, of-true}
 use Rattle.terms.specs.Limits.{SHALLOWEST, DEEPEST, isDepth}
+use Rattle.terms.specs.Readings.{bits-one}
 use Rattle.terms.specs.Same.{sameRule, sameOperator, sameMark, sameDepth, kindOf, firstOf, secondOf, thirdOf}
 use Rattle.terms.specs.Held.{operatorIn, isMarkable}
 use Rattle.terms.specs.Ends.{mark-markable, top-placed, bottom-placed}
@@ -99,13 +97,9 @@ rule-back ρ σ p q e =
 pub rule-exact : (ρ σ : Rule) → ByteRule ρ → ByteRule σ → eqb (ruleKey ρ) (ruleKey σ) ≡ sameRule ρ σ
 rule-exact ρ σ p q = told ruleKey sameRule same-rule ρ σ (rule-back ρ σ p q)
 
--- a depth is told by its bits
-bits-back : (i j : ℤ) → SFits w32 i → SFits w32 j → ofZ w32 i ≡ ofZ w32 j → i ≡ j
-bits-back i j p q e = sym (toZ-ofZ w32 i p) ∙ ap (λ (n : ℕ). toZ w32 n) e ∙ toZ-ofZ w32 j q
-
 pub depth-exact : (i j : ℤ) → DepthFits i → DepthFits j → eqb (depthKey i) (depthKey j) ≡ sameDepth i j
 depth-exact i j p q =
-    told depthKey sameDepth same-depth i j (λ e. subst (λ (k : ℤ). T (sameDepth i k)) (bits-back i j p q e) (depth-same i))
+    told depthKey sameDepth same-depth i j (λ e. subst (λ (k : ℤ). T (sameDepth i k)) (bits-one p q e) (depth-same i))
 
 -- a depth where marks lie is told by its lowest bits
 pos-most : (n : ℕ) → T (isDepth (pos n)) → n ≤ 200_000

@@ -1,10 +1,10 @@
 -- What is told of a list by its keys. Assumes nothing.
 use mathlib.Core.Path.{_≡_, refl, sym, _∙_}
 use mathlib.Core.Bool.{Bool}
-use mathlib.Core.List.{List, [], _∷_, _++_, map, map-append, append-assoc, List·Memᴰ·head, List·Memᴰ·tail}
-use Prim.Native.Nat.{ℕ, zero, suc, _+_, _*_, _≤_, _<_}
+use mathlib.Core.List.{List, [], _∷_, _++_, map, map-append, append-assoc}
+use Prim.Native.Nat.{ℕ, _+_, _*_, _≤_, _<_}
 use native.Mathlib.Omega.{arith}
-use lib.Dec.{T, eqb}
+use lib.Dec.{eqb}
 use lib.IntN.{ℤ}
 use lib.ListN.{length, getD, take, set, length-map, length-set}
 use lib.Seq.{length-take-le}
@@ -13,9 +13,9 @@ use mir.Val.{toZ, ofZ}
 use mir.ValLaws.{toZ-ofZ}
 use Rattle.terms.specs.declared.Mark.{Mark}
 use Rattle.terms.specs.declared.RulePlace.{RulePlace}
-use Rattle.terms.specs.Held.{_∈_, endsOf, isMark}
+use Rattle.terms.specs.Held.{endsOf}
 use Rattle.terms.specs.Ends.{ends-append}
-use Rattle.terms.specs.Places.{rulesIn, Marks-named}
+use Rattle.terms.specs.Places.{rulesIn}
 use Rattle.terms.specs.Same.{sameDepth}
 use Rattle.terms.specs.Lists.{some, once, depthCount}
 use Rattle.scans.specs.Keys.{All, Key-of, Keys-of, depthKey, DepthFits}

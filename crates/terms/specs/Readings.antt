@@ -1,5 +1,6 @@
--- An operator that was read is in range, one in range reads back from its code and distance, and what is in range fits its bytes. Assumes nothing.
-use mathlib.Core.Path.{_≡_, refl}
+-- An operator that was read is in range, one in range reads back from its code and distance, what is in range fits its
+-- bytes, and a depth is told by its bits. Assumes nothing.
+use mathlib.Core.Path.{_≡_, refl, sym, ap, _∙_}
 use mathlib.Core.Bool.{Bool, true, false, cond}
 use Prim.Native.Nat.{ℕ, _^_, _<_}
 use native.Mathlib.Omega.{arith}
@@ -7,7 +8,8 @@ use lib.Dec.{T, eqb, leb, leb→le}
 use lib.IntN.{ℤ, pos, negsuc}
 use lib.Signed.{leZ}
 use mir.Syntax.{w32}
-use mir.Val.{SFits}
+use mir.Val.{SFits, toZ, ofZ}
+use mir.ValLaws.{toZ-ofZ}
 use Rattle.terms.specs.declared.Operator.{Operator}
 use Rattle.terms.specs.declared.Operator.the-variants.{Within, Between, Above, Below, Anywhere}
 use Rattle.terms.specs.declared.OperatorRead.{OperatorRead}
@@ -61,3 +63,7 @@ distance-fits Anywhere t = omega arith
 pub depth-fits : (z : ℤ) → T (isDepth z) → SFits w32 z
 depth-fits (pos n) t = record { sfits = omega (arith, leb→le n 200_000 (and-both (leZ SHALLOWEST (pos n)) (leZ (pos n) DEEPEST) t .1)) }
 depth-fits (negsuc n) t = record { sfits = omega (arith, leb→le n 9_999 (and-both (leZ SHALLOWEST (negsuc n)) (leZ (negsuc n) DEEPEST) t .0)) }
+
+-- depths of 32 bits with equal bits are equal
+pub bits-one : {i j : ℤ} → SFits w32 i → SFits w32 j → ofZ w32 i ≡ ofZ w32 j → i ≡ j
+bits-one {i} {j} f g e = sym (toZ-ofZ w32 i f) ∙ ap (toZ w32) e ∙ toZ-ofZ w32 j g
