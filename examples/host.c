@@ -1,7 +1,7 @@
 /*
  * A host program: lends its memory to the library, feeds it a small section record by record and prints what it says.
  * The section is the worked example of the specification, then a question beside the records, calls with null pointers
- * where the length is 0, and at last a mark with top and bottom.
+ * where the length is 0, a mark with top and bottom, and at last a rule list by the new counting.
  */
 #include <harmikse.h>
 
@@ -29,6 +29,18 @@ static void begin(int kind, int body_len)
 {
     put_number((uint64_t)body_len + 2, 2);
     put_number((uint64_t)kind, 2);
+}
+
+static void reset(void)
+{
+    begin(1, 0);
+}
+
+/* 1 is the old counting, 2 the new one. */
+static void set_counting(uint8_t counting)
+{
+    begin(17, 1);
+    put_number(counting, 1);
 }
 
 static void add_within(uint32_t n, uint8_t from, uint8_t to)
@@ -151,6 +163,18 @@ static void write_stretch(void)
     put_stretch(0, 5, 140, 130);
 }
 
+/* By the new counting 19 is within 19. It can't be set while rules are held, so the first record is refused. */
+static void write_counting(void)
+{
+    set_counting(2);
+    reset();
+    set_counting(2);
+    add_within(19, 1, 2);
+    put_label(0, 1, 104);
+    put_label(0, 1, 123);
+    ask_spans(0, 2);
+}
+
 /* Hands over what is left of the stream, record by record; fails where a record is not used. */
 static int feed(void)
 {
@@ -182,5 +206,8 @@ int main(void)
     if (lend_nothing() != 0)
         return 1;
     write_stretch();
+    if (feed() != 0)
+        return 1;
+    write_counting();
     return feed();
 }

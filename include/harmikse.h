@@ -4,9 +4,9 @@
  * The caller lends four pieces of memory and the bytes of a record; the library holds nothing between calls, allocates
  * nothing and has no global state. It needs memcpy and memset, and nothing else of the C library.
  *
- *   block   the state: every rule and mark accepted since the last RESET and not taken since. All zeros is the empty
- *           state. Keep it from call to call and write it with nothing else: a block that no run of records leads to is
- *           refused with 2.
+ *   block   the state: every rule and mark accepted since the last RESET and not taken since, and the counting. All
+ *           zeros is the empty state. Keep it from call to call and write it with nothing else: a block that no run of
+ *           records leads to is refused with 2.
  *   labels  the label table, 64-bit numbers: entry item * 193 + piece, bit = label.
  *   links   the link table, bytes: entry (from * 16 + to) * 193 + piece, bit = link kind.
  *   spans   the span buffer: pairs of top and bottom, in centimetres.
@@ -28,6 +28,11 @@
  * lengths are 12, 13, 12 and 13. Two marks are the same if all their fields are, by whichever kind they come: kind 8
  * takes what kind 13 put with both ends equal. At most 96 depths are marked: tops and bottoms, each depth once; what
  * lies between is not marked.
+ *
+ * Counting: WITHIN n fills from j to k where k - j < n by the old counting, and where k - j <= n by the new one. Kind
+ * 17 sets it; its length is 3, and its one byte is 1 for the old counting or 2 for the new one. Send it before the
+ * rules: while a rule is held it is refused with 15, whichever counting it names. The empty state has the old counting,
+ * and RESET goes back to it.
  *
  * Stack: leave 176 KiB for a call (HARMIKSE_STACK_BYTES).
  *
@@ -75,7 +80,7 @@ enum harmikse_answer {
     HARMIKSE_REFUSED = 6        /* value: one of the numbers below */
 };
 
-/* Where several apply, the first in the order 1 to 8, 14, 9 to 12 is given; end stands between 2 and 3. */
+/* Where several apply, the first in the order 1 to 7, 15, 8, 14, 9 to 12 is given; end stands between 2 and 3. */
 enum harmikse_refusal {
     HARMIKSE_SHORT_MEMORY = 1,   /* block, a table or span buffer too short */
     HARMIKSE_BAD_BLOCK = 2,      /* a block that no run of records from all zeros leads to */
@@ -83,13 +88,14 @@ enum harmikse_refusal {
     HARMIKSE_UNKNOWN_KIND = 4,
     HARMIKSE_WRONG_LENGTH = 5,   /* length not that of the kind */
     HARMIKSE_BAD_NAME = 6,       /* an item, label or link kind out of range */
-    HARMIKSE_BAD_OPERATOR = 7,   /* code or n out of range */
+    HARMIKSE_BAD_OPERATOR = 7,   /* code or n out of range, or a counting other than 1 and 2 */
     HARMIKSE_BAD_DEPTH = 8,      /* a mark's depth, top or bottom out of range */
     HARMIKSE_ALREADY_HELD = 9,   /* a rule, or a mark to put */
     HARMIKSE_NOT_HELD = 10,      /* a mark to take */
     HARMIKSE_LIST_FULL = 11,     /* 128 rules or 256 marks */
     HARMIKSE_DEPTHS_FULL = 12,   /* a mark with which tops and bottoms would be at more than 96 depths */
-    HARMIKSE_BAD_STRETCH = 14    /* a mark's top deeper than its bottom; tested after 8 and before 9 */
+    HARMIKSE_BAD_STRETCH = 14,   /* a mark's top deeper than its bottom; tested after 8 and before 9 */
+    HARMIKSE_RULES_HELD = 15     /* kind 17 while a rule is held; tested after 7 and before 8 */
 };
 
 /*

@@ -80,7 +80,7 @@ fn kind_derives(section: &Held, kind: &Rule, all: &Tables) -> bool {
     let other = |rule: &&Rule| discriminant(*rule) != discriminant(kind);
     let rest = Held {
         rules: section.rules.iter().filter(other).copied().collect(),
-        marks: section.marks.clone(),
+        ..section.clone()
     };
     let mut tables = Tables::new();
     tables.derive(&rest);

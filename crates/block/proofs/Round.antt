@@ -14,6 +14,8 @@ use mir.Val.{SFits, ofZ}
 use mir.ValLaws.{ofZ-fits, toZ-ofZ}
 use Rattle.codec.specs.Bytes.{little, bytes}
 use Rattle.codec.proofs.Laws.{little-same, little-bytes, length-bytes}
+use Rattle.terms.specs.declared.Counting.{Counting}
+use Rattle.terms.specs.declared.Counting.the-variants.{Old, New}
 use Rattle.terms.specs.declared.Operator.{Operator}
 use Rattle.terms.specs.declared.Rule.{Rule}
 use Rattle.terms.specs.declared.Rule.the-variants.{Label, Both, Link, Via}
@@ -25,12 +27,13 @@ use Rattle.terms.specs.declared.Settings.{Settings}
 use Rattle.terms.specs.Limits.{RULES, MARKS}
 use Rattle.terms.specs.Operators.{operatorOf, codeOf, distanceOf, isOperator, orIdentity}
 use Rattle.terms.specs.Readings.{operator-read, distance-fits, depth-fits}
-use Rattle.terms.specs.Held.{Held, isNamed, isRule, isMark, emptyHeld}
+use Rattle.terms.specs.Held.{Held, freshSettings, isNamed, isRule, isMark, emptyHeld}
 use Rattle.terms.specs.Ends.{top-placed, bottom-placed}
 use Rattle.terms.specs.Places.{emptyMark}
 use Rattle.terms.specs.Lists.{every, limits}
 use Rattle.terms.specs.Limited.{Limited, limited}
 use Rattle.block.specs.Layout.{
+  countingByte,
   settingsBytes,
   placeBytes,
   ruleBytes,
@@ -49,6 +52,7 @@ use Rattle.block.specs.Layout.{
   encode,
 }
 use Rattle.block.specs.Block.{
+  countingFrom,
   settingsAt,
   ruleOf,
   ruleRead,
@@ -86,10 +90,18 @@ no-count : bytes 2 0 ≡ zeros 2
 unfolding bytes zeros
 no-count = refl
 
--- where nothing is held all bytes are zero
+fresh-zero : padded (HEADER - SETTINGS-AT) (settingsBytes freshSettings) ≡ zeros (HEADER - SETTINGS-AT)
+unfolding settingsBytes zeros
+fresh-zero = refl
+
+counting-back : (c : Counting) → countingFrom (countingByte c) ≡ c
+counting-back Old = refl
+counting-back New = refl
+
+-- where nothing is held and set all bytes are zero
 pub encode-empty : encode emptyHeld ≡ zeros SIZE
 unfolding encode cat
-encode-empty = rw (no-count, zeros-add 1024 3072, zeros-add 28 4096, zeros-add 2 4124, zeros-add 2 4126)
+encode-empty = rw (no-count, zeros-add 1024 3072, fresh-zero, zeros-add 28 4096, zeros-add 2 4124, zeros-add 2 4126)
 
 -- ---- what the limits say
 
@@ -244,9 +256,35 @@ module _ (h : Held) (within : T (limits h)) (t : List ℕ) where
       rw (append-assoc, append-assoc)
       (count-back 2 (length (h .marks)) 2 (bytes 2 (length (h .rules))) _ (length-bytes 2 (length (h .rules))) (omega (arith, k .few-marks)))
 
-  -- the settings are read back
+  abbrev counts : List ℕ
+  counts = bytes 2 (length (h .rules)) ++ bytes 2 (length (h .marks))
+
+  abbrev set : List ℕ
+  set = settingsBytes (h .settings)
+
+  abbrev behind-settings : List ℕ
+  behind-settings = zeros (HEADER - SETTINGS-AT - length set) ++ (rule-bytes ++ behind-rules)
+
+  to-settings : block ≡ counts ++ (set ++ behind-settings)
+  unfolding encode
+  to-settings = simp append-assoc
+
+  -- the settings stand behind the counts
+  setting-stands : (j : ℕ) → j < length set → getD block (SETTINGS-AT + j) 0 ≡ getD set j 0
+  setting-stands j l =
+      let z : SETTINGS-AT + j ≡ length counts + j = simp (length-append, length-bytes) in
+      ap (λ (x : List ℕ). getD x (SETTINGS-AT + j) 0) to-settings
+      ∙ ap (λ (n : ℕ). getD (counts ++ (set ++ behind-settings)) n 0) z
+      ∙ getD-append-add counts (set ++ behind-settings) j 0
+      ∙ List·getD-append set behind-settings 0 j l
+
+  abbrev settingsWith : ℕ → Settings
+  settingsWith x = record { counting = countingFrom x }
+
+  -- and are read back
   settings-back : settingsAt block ≡ h .settings
-  settings-back = refl
+  unfolding settingsBytes
+  settings-back = ap settingsWith (setting-stands 0 (omega arith)) ∙ ap (λ (c : Counting). record { counting = c }) (counting-back (h .settings .counting))
 
   none : Rule
   none = Both 0 0 0

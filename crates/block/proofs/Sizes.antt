@@ -30,6 +30,7 @@ use Rattle.block.specs.Layout.{
 use Rattle.block.specs.Places.{placeBytesOf}
 
 pub settings-size : (σ : Settings) → length (settingsBytes σ) ≤ HEADER - SETTINGS-AT
+unfolding settingsBytes
 settings-size σ = omega arith
 
 pub rule-size : (ρ : Rule) → length (ruleBytes ρ) ≡ RULE-BYTES

@@ -7,17 +7,19 @@ use lib.Dec.{eqb}
 use lib.IntN.{ℤ}
 use lib.ListN.{take, getD}
 use Rattle.codec.specs.Bytes.{little, signed32At}
+use Rattle.terms.specs.declared.Counting.{Counting}
+use Rattle.terms.specs.declared.Counting.the-variants.{Old, New}
 use Rattle.terms.specs.declared.Rule.{Rule}
 use Rattle.terms.specs.declared.Rule.the-variants.{Label, Both, Link, Via}
 use Rattle.terms.specs.declared.Atom.the-variants.{Has, Linked}
 use Rattle.terms.specs.declared.Mark.{Mark}
 use Rattle.terms.specs.declared.Settings.{Settings}
 use Rattle.terms.specs.Operators.{operatorOf, orIdentity}
-use Rattle.terms.specs.Held.{Held, freshSettings}
+use Rattle.terms.specs.Held.{Held}
 use Rattle.terms.specs.Lists.{limits}
 use Rattle.state.specs.State.{heldOf, Counts-in}
 use Rattle.block.specs.declared.Loaded.{Loaded}
-use Rattle.block.specs.Layout.{HEADER, RULE-BYTES, MARK-BYTES, MARKS-AT, SIZE, encode}
+use Rattle.block.specs.Layout.{SETTINGS-AT, HEADER, RULE-BYTES, MARK-BYTES, MARKS-AT, SIZE, encode}
 
 -- docs/STATE.md, a rule place, read
 unfoldable pub ruleOf : ℕ → ℕ → ℕ → ℕ → ℕ → Rule
@@ -38,9 +40,12 @@ markOf k a b c t d = cond (eqb k 6) (record { atom = Has a b; top = t; bottom = 
 abbrev pub markRead : List ℕ → ℕ → Mark
 markRead b at = markOf (getD b at 0) (getD b (at + 1) 0) (getD b (at + 2) 0) (getD b (at + 3) 0) (signed32At b (at + 4)) (signed32At b (at + 8))
 
--- the settings, read: none yet
+-- the settings, read; what no counting is stored as is read as the new one
+abbrev pub countingFrom : ℕ → Counting
+countingFrom x = cond (eqb x 0) Old New
+
 abbrev pub settingsAt : List ℕ → Settings
-settingsAt b = freshSettings
+settingsAt b = record { counting = countingFrom (getD b SETTINGS-AT 0) }
 
 -- f 0, f 1 .., n in all
 unfoldable pub tab : {X : Type 0} → (ℕ → X) → ℕ → List X

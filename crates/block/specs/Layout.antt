@@ -4,6 +4,8 @@ use mathlib.Core.List.{List, [], _∷_, _++_}
 use lib.ListN.{length, replicate}
 use lib.IntN.{ℤ}
 use Rattle.codec.specs.Bytes.{bytes, bytesOfSigned32}
+use Rattle.terms.specs.declared.Counting.{Counting}
+use Rattle.terms.specs.declared.Counting.the-variants.{Old, New}
 use Rattle.terms.specs.declared.Rule.{Rule}
 use Rattle.terms.specs.declared.Rule.the-variants.{Label, Both, Link, Via}
 use Rattle.terms.specs.declared.Atom.{Atom}
@@ -35,9 +37,13 @@ atomBytes (Linked a r b) t d = markBytesOf 7 a r b t d
 abbrev pub markBytes : Mark → List ℕ
 markBytes m = atomBytes (m .atom) (m .top) (m .bottom)
 
--- docs/STATE.md, the settings in the header: none yet
-abbrev pub settingsBytes : Settings → List ℕ
-settingsBytes s = []
+-- docs/STATE.md, the settings in the header: the counting, 0 old and 1 new
+abbrev pub countingByte : Counting → ℕ
+countingByte Old = 0
+countingByte New = 1
+
+unfoldable pub settingsBytes : Settings → List ℕ
+settingsBytes s = countingByte (s .counting) ∷ []
 
 -- the parts of each element, one after the other
 unfoldable pub cat : {X : Type 0} → (X → List ℕ) → List X → List ℕ

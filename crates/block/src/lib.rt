@@ -6,12 +6,13 @@ ghost use lib.ListN.{length, take, drop};
 ghost use Rattle.codec.specs.Bytes.{put};
 ghost use Rattle.terms.specs.Limits.{RULES, MARKS};
 ghost use Rattle.state.specs.State.{Counts-in, heldOf};
-ghost use Rattle.block.specs.Layout.{settingsBytes, placeBytes, ruleBytes, markBytesOf, markBytes, cat, zeros, SETTINGS-AT, HEADER, MARKS-AT};
+ghost use Rattle.block.specs.Layout.{countingByte, settingsBytes, placeBytes, ruleBytes, markBytesOf, markBytes, cat, zeros, SETTINGS-AT, HEADER, MARKS-AT};
 ghost use Rattle.block.specs.Layout.{SIZE, encode};
-ghost use Rattle.block.specs.Block.{settingsAt, ruleOf, ruleRead, markOf, markRead, sameBytes, Loaded-as};
+ghost use Rattle.block.specs.Block.{countingFrom, settingsAt, ruleOf, ruleRead, markOf, markRead, sameBytes, Loaded-as};
 ghost use Rattle.block.specs.Places.{placeFrom, markFrom, placeBytesOf, Filled, Not-good};
 use state::State;
 use terms::Atom;
+use terms::Counting;
 use terms::MARKS;
 use terms::Mark;
 use terms::Operator;
@@ -21,6 +22,8 @@ use terms::RulePlace;
 use terms::Settings;
 
 pub const SIZE: usize = MARKS_AT + MARKS * MARK_BYTES;
+
+const SETTINGS_AT: usize = 4;
 
 const HEADER: usize = 32;
 
@@ -143,16 +146,40 @@ fn put_mark(b: &mut [u8], at: usize, mark: Mark)
     }
 }
 
-// Nothing is set yet, so there is nothing to lay.
+fn counting_byte(counting: Counting) -> u8
+    ensures { λ r. ⌜ r ≡ countingByte counting ⌝ }
+{
+    match counting {
+        Counting::Old => 0,
+        Counting::New => 1,
+    }
+}
+
+// What no counting is stored as is read as the new one; the comparison in `load` finds it.
+fn counting_from(byte: u8) -> Counting
+    ensures { λ r. ⌜ r ≡ countingFrom byte ⌝ }
+{
+    if byte == 0 {
+        return Counting::Old;
+    }
+    Counting::New
+}
+
 fn put_settings(b: &mut [u8], settings: Settings)
     requires { ⌜ SIZE ≤ length (now b) ⌝ }
     ensures { λ _. ⌜ now (b .exit) ≡ put (now (b .entry)) SETTINGS-AT (settingsBytes settings) ⌝ }
-{}
+{
+    let counting = settings.counting;
+    b[SETTINGS_AT] = counting_byte(counting);
+}
 
 fn settings_at(b: &[u8]) -> Settings
+    requires { ⌜ SIZE ≤ length (now b) ⌝ }
     ensures { λ r. ⌜ r ≡ settingsAt (now (b .entry)) ⌝ }
 {
-    Settings::FRESH
+    Settings {
+        counting: counting_from(b[SETTINGS_AT]),
+    }
 }
 
 // A free place is zero bytes.

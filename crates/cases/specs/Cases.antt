@@ -5,19 +5,20 @@ use lib.IntN.{ℤ, pos, negsuc}
 use Rattle.terms.specs.declared.Operator.{Operator}
 use Rattle.terms.specs.declared.Operator.the-variants.{Within, Between, Above, Below, Anywhere}
 use Rattle.terms.specs.declared.Rule.{Rule}
-use Rattle.terms.specs.declared.Rule.the-variants.{Label, Both, Via}
+use Rattle.terms.specs.declared.Rule.the-variants.{Label, Both, Link, Via}
 use Rattle.terms.specs.declared.Atom.the-variants.{Has, Linked}
 use Rattle.terms.specs.declared.Mark.{Mark}
 use Rattle.terms.specs.Limits.{ITEMS, EVERY, NEVER, NO-TOP, NO-BOTTOM}
 use Rattle.terms.specs.declared.Question.{Question}
 use Rattle.terms.specs.declared.Question.the-variants as Question
-use Rattle.terms.specs.Held.{Held, freshSettings}
+use Rattle.terms.specs.declared.Counting.the-variants.{New}
+use Rattle.terms.specs.Held.{Held, freshSettings, withCounting}
 use Rattle.terms.specs.Lists.{strike}
 use Rattle.terms.specs.Same.{sameMark}
 use Rattle.terms.specs.Spans.{Run, run}
 use Rattle.decide.specs.Decides.{Yes, No, Spans, Reply, Contradiction, Answered}
 
--- a row: what is held, what is asked, and the reply that 01 gives
+-- a row: what is held, what is asked, and the reply that 01 or 02 gives
 pub record Case : Type 0 where
   pub held : Held
   pub question : Question
@@ -104,6 +105,43 @@ stretches =
     ∷ has-at (strike (sameMark (stretch 1 10 20)) (stretch 1 10 20 ∷ stretch 1 20 30 ∷ [])) 19 (Answered No)
     ∷ []
 
+-- the same held and asked by the new counting
+abbrev pub newly : Case → Case
+newly c = record { held = withCounting (c .held) New; question = c .question; reply = c .reply }
+
+-- link 0 from 0 to 1 at 10 and 13, and LINKRULE WITHIN 3 from link 0 to 1: whether link 1 holds at this depth
+abbrev pub tied : ℕ → Reply → Case
+tied i = on (Link (Within 3) 0 1 ∷ []) (link 0 0 1 (pos 10) ∷ link 0 0 1 (pos 13) ∷ []) (Question.Holds (Linked 0 1 1) (pos i))
+
+-- label 3 from label 1 at 10 up and from label 2 at 20 down, and label 4 from WITHIN n of it: the set has no ends, and a gap of 10
+abbrev pub gap : ℕ → List Run → Case
+gap n rs =
+    on (Label Above 1 3 ∷ Label Below 2 3 ∷ Label (Within n) 3 4 ∷ []) (label 0 1 (pos 10) ∷ label 0 2 (pos 20) ∷ []) (Question.Spans 0 4)
+    (Answered (Spans rs))
+
+-- 02, Slip 4: WITHIN n by the new counting, k - j ≤ n, at the distance itself and one below it; WITHIN 1 gives M by either counting; between a
+-- stretch and a point; on a derived set without ends; of a link, by either counting; the other operators as by the old one
+abbrev pub countings : List Case
+countings =
+    newly (gives (Within 19) two (run (pos 104) (pos 123) ∷ []))
+    ∷ newly (gives (Within 18) two (run (pos 104) (pos 104) ∷ run (pos 123) (pos 123) ∷ []))
+    ∷ newly (gives (Within 2) four (run (negsuc 2) (pos 0) ∷ run (pos 4) (pos 4) ∷ []))
+    ∷ newly (gives (Within 1) four (run (negsuc 2) (negsuc 1) ∷ run (pos 0) (pos 0) ∷ run (pos 4) (pos 4) ∷ []))
+    ∷ newly (gives (Within 10) caliper (run (pos 100) (pos 120) ∷ []))
+    ∷ newly (gives (Within 9) caliper (run (pos 100) (pos 110) ∷ run (pos 120) (pos 120) ∷ []))
+    ∷ newly (gap 10 (run NO-TOP NO-BOTTOM ∷ []))
+    ∷ newly (gap 9 (run NO-TOP (pos 10) ∷ run (pos 20) NO-BOTTOM ∷ []))
+    ∷ gap 10 (run NO-TOP (pos 10) ∷ run (pos 20) NO-BOTTOM ∷ [])
+    ∷ newly (tied 11 (Answered Yes))
+    ∷ newly (tied 14 (Answered No))
+    ∷ tied 11 (Answered No)
+    ∷ tied 10 (Answered Yes)
+    ∷ newly (gives Between four (run (negsuc 2) (pos 4) ∷ []))
+    ∷ newly (gives Above four (run NO-TOP (pos 4) ∷ []))
+    ∷ newly (gives Below four (run (negsuc 2) NO-BOTTOM ∷ []))
+    ∷ newly (gives Anywhere four (run NO-TOP NO-BOTTOM ∷ []))
+    ∷ []
+
 -- 01, Cases at the edges: those marked P, in its order but for the rows of every item, which stand behind; then 02's
 abbrev pub cases : List Case
 cases =
@@ -121,4 +159,4 @@ cases =
     ∷ joined (pos 10) (Question.Spans 0 3) (Answered (Spans (run (pos 10) (pos 10) ∷ [])))
     ∷ joined (pos 11) (Question.Holds (Has 0 3) (pos 11)) (Answered No)
     ∷ joined (pos 11) (Question.Spans 0 3) (Answered (Spans []))
-    ∷ (nothing ITEMS ++ stretches)
+    ∷ (nothing ITEMS ++ (stretches ++ countings))

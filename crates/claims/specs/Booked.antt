@@ -8,12 +8,13 @@ use borrow.Author.Tests.{eqb-true, eqb-false, eq-eqb, ne-eqb}
 use lib.Dec.{eqb}
 use lib.ListN.{length}
 use Rattle.terms.specs.declared.Answer.the-variants as Answer
+use Rattle.terms.specs.declared.Counting.{Counting}
 use Rattle.terms.specs.declared.Mark.{Mark}
 use Rattle.terms.specs.declared.Question.{Question}
 use Rattle.terms.specs.declared.Rule.{Rule}
 use Rattle.terms.specs.declared.Tested.{Tested}
 use Rattle.terms.specs.declared.Tested.the-variants as Tested
-use Rattle.terms.specs.Held.{Held, withRules, withMarks, emptyHeld}
+use Rattle.terms.specs.Held.{Held, withRules, withMarks, withCounting, emptyHeld}
 use Rattle.terms.specs.Limited.{InRange}
 use Rattle.terms.specs.Lists.{strike}
 use Rattle.terms.specs.Refusals.{rank, tested, test, Test}
@@ -34,6 +35,7 @@ use Rattle.claims.specs.Table.{
   Adds,
   Puts,
   Takes,
+  Counts,
   Asks,
   said,
   brokenFrame,
@@ -58,6 +60,7 @@ use Rattle.claims.specs.Reference.{
   added,
   put,
   struck,
+  counted,
   answered,
 }
 use Rattle.claims.specs.Kinds.{saidOf, said-command}
@@ -111,6 +114,7 @@ module _ (h : Held) (f : Fed) where
   by-command (Command.Add ρ) e l d Told.changed = added (record { passes = e; left = l; says = d })
   by-command (Command.Put m) e l d Told.changed = put (record { passes = e; left = l; says = d })
   by-command (Command.Take m) e l d Told.changed = struck (record { passes = e; left = l; says = d })
+  by-command (Command.Count c) e l d Told.changed = counted (record { passes = e; left = l; says = d })
   by-command (Command.Ask q) e l d (Told.asked r w) = answered r (record { passes = e; left = l; says = d }) w
 
   by-left :
@@ -136,6 +140,7 @@ module _ (h : Held) (f : Fed) where
     add-entry : {ρ : Rule} → Entry Tested.Passed false (Adds ρ) (plain Answer.Done (recordUsed f)) (withRules h (h .rules ++ (ρ ∷ [])))
     put-entry : {m : Mark} → Entry Tested.Passed false (Puts m) (plain Answer.Done (recordUsed f)) (withMarks h (h .marks ++ (m ∷ [])))
     take-entry : {m : Mark} → Entry Tested.Passed false (Takes m) (plain Answer.Done (recordUsed f)) (withMarks h (strike (sameMark m) (h .marks)))
+    count-entry : {c : Counting} → Entry Tested.Passed false (Counts c) (plain Answer.Done (recordUsed f)) (withCounting h c)
     ask-entry : {q : Question} (r : Reply) → Decides h q r → Entry Tested.Passed false (Asks q) (shown r (recordUsed f)) h
 
   entry-one : {t : Tested} {v : Bool} {x : Said} {r r′ : Result} {k k′ : Held} → Entry t v x r k → Entry t v x r′ k′ → (r ≡ r′) × (k ≡ k′)
@@ -145,6 +150,7 @@ module _ (h : Held) (f : Fed) where
   entry-one add-entry add-entry = (refl, refl)
   entry-one put-entry put-entry = (refl, refl)
   entry-one take-entry take-entry = (refl, refl)
+  entry-one count-entry count-entry = (refl, refl)
   entry-one (ask-entry {q = q} r d) (ask-entry r′ e) = (ap (λ w. shown w (recordUsed f)) (at-most-one h q r r′ d e), refl)
 
   abbrev Here : Result → Held → Type 0
@@ -165,6 +171,7 @@ module _ (h : Held) (f : Fed) where
   entry (added a) = accepted-here a add-entry
   entry (put a) = accepted-here a put-entry
   entry (struck a) = accepted-here a take-entry
+  entry (counted a) = accepted-here a count-entry
   entry (answered r a d) = accepted-here a (ask-entry r d)
 
   -- the book has at most one result for each feeding, and holds one thing then

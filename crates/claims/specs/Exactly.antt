@@ -175,6 +175,7 @@ asks-command Command.Reset q e = differ (cc)
 asks-command (Command.Add ρ) q e = differ (cc)
 asks-command (Command.Put k) q e = differ (cc)
 asks-command (Command.Take k) q e = differ (cc)
+asks-command (Command.Count k) q e = differ (cc)
 asks-command (Command.Ask p) q e = let f : p ≡ q = cc in ap Command.Ask f
 
 module _ (m : Buffers) (s : List ℕ) (h : Held) (q : Question) (a : Asking m s h q) where

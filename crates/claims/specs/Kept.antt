@@ -7,12 +7,13 @@ use Prim.Native.Nat.{ℕ}
 use native.Mathlib.Omega.{arith}
 use lib.Dec.{T, ltb, leb, nltb→le, nleb→lt}
 use lib.ListN.{length, length-append}
+use Rattle.terms.specs.declared.Counting.{Counting}
 use Rattle.terms.specs.declared.Rule.{Rule}
 use Rattle.terms.specs.declared.Mark.{Mark}
 use Rattle.terms.specs.Limits.{RULES, MARKS, DEPTHS}
 use Rattle.terms.specs.declared.Tested.the-variants as Tested
 use Rattle.terms.specs.Refusals.{Test, test, tested}
-use Rattle.terms.specs.Held.{Held, endsOf, isRule, isMark, emptyHeld}
+use Rattle.terms.specs.Held.{Held, endsOf, withCounting, isRule, isMark, emptyHeld}
 use Rattle.terms.specs.Same.{sameRule, sameMark}
 use Rattle.terms.specs.SameLaws.{same-rule, rule-same, same-mark, mark-same}
 use Rattle.terms.specs.Lists.{some, every, strike, once, depthCount}
@@ -91,6 +92,18 @@ put-limited h m w p e =
       once-marks = once-snoc sameMark same-mark mark-same (h .marks) m (w .once-marks) (t .0);
       settings = w .settings;
     }
+
+pub counted-limited : (h : Held) (c : Counting) → Limited h → Limited (withCounting h c)
+counted-limited h c w = record {
+  few-rules = w .few-rules;
+  few-marks = w .few-marks;
+  few-depths = w .few-depths;
+  rules = w .rules;
+  marks = w .marks;
+  once-rules = w .once-rules;
+  once-marks = w .once-marks;
+  settings = tt;
+}
 
 pub taken-limited : (h : Held) (m : Mark) → Limited h → Limited (takeMark h m)
 taken-limited h m w = record {

@@ -10,6 +10,7 @@ use native.Mathlib.Omega.{arith}
 use lib.Dec.{T, ltb, leb, ltb→lt, leb→le}
 use lib.IntN.{ℤ, pos}
 use lib.ListN.{length, take, drop, replicate, length-append, length-replicate, take-append-drop}
+use Rattle.terms.specs.declared.Counting.{Counting}
 use Rattle.terms.specs.declared.Rule.{Rule}
 use Rattle.terms.specs.declared.Mark.{Mark}
 use Rattle.terms.specs.Tests.{and-both, false-of}
@@ -116,7 +117,8 @@ room done todo m h = not-short DEPTHS (depthCount (endsOf (done ++ (m ∷ []))))
         (List·Memᴰ·append-cases done n)
 
 module _ (𝓛 : Laws) (rule-record : (σ : Settings) (ρ : Rule) → T (isRule ρ) → Written σ (Command.Add ρ))
-    (mark-record : (σ : Settings) (m : Mark) → T (isMark m) → Written σ (Command.Put m)) where
+    (mark-record : (σ : Settings) (m : Mark) → T (isMark m) → Written σ (Command.Put m))
+    (counting-record : (σ : Settings) (c : Counting) → Written σ (Command.Count c)) where
   record Reached (h : Held) : Type 0 where
     held : Limited h
     run : Run-to (encode h)
@@ -144,9 +146,14 @@ module _ (𝓛 : Laws) (rule-record : (σ : Settings) (ρ : Rule) → T (isRule 
   abbrev of-parts : Settings → List Rule → List Mark → Held
   of-parts σ rs ms = record { rules = rs; marks = ms; settings = σ }
 
-  -- nothing is set yet, so that no record is needed
+  reach-empty : Reached emptyHeld
+  reach-empty = record { held = empty-limited; run = subst Run-to (sym (𝓛 .encode-empty)) from-zeros }
+
+  -- 02, Slip 4: kind 17 sets either counting while nothing is held
   reach-settings : (σ : Settings) → T (isSettings σ) → Reached (of-parts σ [] [])
-  reach-settings σ t = record { held = empty-limited; run = subst Run-to (sym (𝓛 .encode-empty)) from-zeros }
+  reach-settings σ t =
+      let c = σ .counting in
+      one-more-record emptyHeld (of-parts σ [] []) (Command.Count c) (counting-record (emptyHeld .settings) c) refl (λ u. refl) reach-empty
 
   module _ (σ : Settings) where
     reach-rules :

@@ -4,6 +4,7 @@ use mathlib.Core.List.{List, [], _∷_, _++_}
 use Prim.Native.Nat.{ℕ, _-_, _≤_}
 use lib.Dec.{eqb, ltb, leb}
 use lib.ListN.{length}
+use Rattle.terms.specs.declared.Counting.{Counting}
 use Rattle.terms.specs.declared.Rule.{Rule}
 use Rattle.terms.specs.declared.Mark.{Mark}
 use Rattle.terms.specs.declared.Question.{Question}
@@ -28,6 +29,8 @@ use Rattle.records.specs.Formats.{
   linkMark,
   labelStretch,
   linkStretch,
+  countingAt,
+  isNoCounting,
   labelQuestion,
   linkQuestion,
   spansQuestion,
@@ -36,16 +39,18 @@ use Rattle.records.specs.Formats.{
   lengthsOf,
 }
 
--- 01, Records: RESET empties, a rule is added, a mark is put or taken, a question asks; a kind that there is not says nothing
+-- 01, Records: RESET empties, a rule is added, a mark is put or taken, a question asks; 02, Slip 4: a counting is set; a kind that there is not
+-- says nothing
 pub data Said : Type 0 where
   Nothing : Said
   Empties : Said
   Adds : Rule → Said
   Puts : Mark → Said
   Takes : Mark → Said
+  Counts : Counting → Said
   Asks : Question → Said
 
--- 01, Records: the table of kinds; 02, Slip 2: 13 and 14 put a stretch, 15 and 16 take one
+-- 01, Records: the table of kinds; 02, Slip 2: 13 and 14 put a stretch, 15 and 16 take one; Slip 4: 17 sets the counting
 unfoldable pub saidBy : ℕ → List ℕ → Said
 saidBy k b =
     cond (eqb k 1) Empties
@@ -64,20 +69,22 @@ saidBy k b =
     (cond (eqb k 14) (Puts (linkStretch b))
     (cond (eqb k 15) (Takes (labelStretch b))
     (cond (eqb k 16) (Takes (linkStretch b))
-    Nothing)))))))))))))))
+    (cond (eqb k 17) (Counts (countingAt b))
+    Nothing))))))))))))))))
 
 -- what the first record of these bytes says
 abbrev pub said : List ℕ → Said
 said s = saidBy (kindField s) (bodyOf s)
 
--- one thing for a rule, a mark to put, a mark to take and a question each; another for what says none of these
-abbrev pub onSaid : {A : Type 0} → A → (Rule → A) → (Mark → A) → (Mark → A) → (Question → A) → Said → A
-onSaid d r p t q Nothing = d
-onSaid d r p t q Empties = d
-onSaid d r p t q (Adds ρ) = r ρ
-onSaid d r p t q (Puts m) = p m
-onSaid d r p t q (Takes m) = t m
-onSaid d r p t q (Asks x) = q x
+-- one thing for a rule, a mark to put, a mark to take, a counting and a question each; another for what says none of these
+abbrev pub onSaid : {A : Type 0} → A → (Rule → A) → (Mark → A) → (Mark → A) → (Counting → A) → (Question → A) → Said → A
+onSaid d r p t c q Nothing = d
+onSaid d r p t c q Empties = d
+onSaid d r p t c q (Adds ρ) = r ρ
+onSaid d r p t c q (Puts m) = p m
+onSaid d r p t c q (Takes m) = t m
+onSaid d r p t c q (Counts x) = c x
+onSaid d r p t c q (Asks x) = q x
 
 -- ---- 01, Where a record is turned away: each row's case
 
@@ -95,35 +102,40 @@ wrongLength s = not (allows (lengthsOf (kindField s)) (lengthField s))
 
 -- 6: an item, label or link kind out of range
 abbrev pub badName : Said → Bool
-badName = onSaid false (λ ρ. not (isNamed ρ)) (λ m. not (isMarkable (m .atom))) (λ m. not (isMarkable (m .atom))) (λ q. not (isQuestion q))
+badName =
+    onSaid false (λ ρ. not (isNamed ρ)) (λ m. not (isMarkable (m .atom))) (λ m. not (isMarkable (m .atom))) (λ c. false) (λ q. not (isQuestion q))
 
--- 7: code or n out of range, where the record has them
-abbrev pub badOperator : ℕ → List ℕ → Bool
-badOperator k b = (eqb k 2 || eqb k 4) && isInvalid (operatorAt b)
+-- 7: code or n out of range, where the record has them; 02, Slip 4: what is no counting
+abbrev pub badValue : ℕ → List ℕ → Bool
+badValue k b = cond (eqb k 2 || eqb k 4) (isInvalid (operatorAt b)) (eqb k 17 && isNoCounting b)
+
+-- 15: a counting while a rule is held
+abbrev pub ruleHeld : Held → Said → Bool
+ruleHeld h = onSaid false (λ ρ. false) (λ m. false) (λ m. false) (λ c. ltb 0 (length (h .rules))) (λ q. false)
 
 -- 8: a mark's depth out of range, either end
 abbrev pub badDepth : Said → Bool
-badDepth = onSaid false (λ ρ. false) (λ m. not (isPlaced m)) (λ m. not (isPlaced m)) (λ q. false)
+badDepth = onSaid false (λ ρ. false) (λ m. not (isPlaced m)) (λ m. not (isPlaced m)) (λ c. false) (λ q. false)
 
 -- 14: top deeper than bottom
 abbrev pub badOrder : Said → Bool
-badOrder = onSaid false (λ ρ. false) (λ m. not (isOrdered m)) (λ m. not (isOrdered m)) (λ q. false)
+badOrder = onSaid false (λ ρ. false) (λ m. not (isOrdered m)) (λ m. not (isOrdered m)) (λ c. false) (λ q. false)
 
 -- 9: a rule, or a mark to put, that is already held
 abbrev pub alreadyHeld : Held → Said → Bool
-alreadyHeld h = onSaid false (λ ρ. some (sameRule ρ) (h .rules)) (λ m. some (sameMark m) (h .marks)) (λ m. false) (λ q. false)
+alreadyHeld h = onSaid false (λ ρ. some (sameRule ρ) (h .rules)) (λ m. some (sameMark m) (h .marks)) (λ m. false) (λ c. false) (λ q. false)
 
 -- 10: TAKE of a mark not held
 abbrev pub notHeld : Held → Said → Bool
-notHeld h = onSaid false (λ ρ. false) (λ m. false) (λ m. not (some (sameMark m) (h .marks))) (λ q. false)
+notHeld h = onSaid false (λ ρ. false) (λ m. false) (λ m. not (some (sameMark m) (h .marks))) (λ c. false) (λ q. false)
 
 -- 11: a rule while 128 are held, or a mark to put while 256 are
 abbrev pub listFull : Held → Said → Bool
-listFull h = onSaid false (λ ρ. leb RULES (length (h .rules))) (λ m. leb MARKS (length (h .marks))) (λ m. false) (λ q. false)
+listFull h = onSaid false (λ ρ. leb RULES (length (h .rules))) (λ m. leb MARKS (length (h .marks))) (λ m. false) (λ c. false) (λ q. false)
 
 -- 12: a mark to put whose ends, with those of the held marks, are more than 96 depths
 abbrev pub depthsFull : Held → Said → Bool
-depthsFull h = onSaid false (λ ρ. false) (λ m. ltb DEPTHS (depthCount (endsOf (h .marks ++ (m ∷ []))))) (λ m. false) (λ q. false)
+depthsFull h = onSaid false (λ ρ. false) (λ m. ltb DEPTHS (depthCount (endsOf (h .marks ++ (m ∷ []))))) (λ m. false) (λ c. false) (λ q. false)
 
 -- ---- the table
 
@@ -132,7 +144,8 @@ abbrev pub recordRows : Held → ℕ → List ℕ → List Test
 recordRows h k b =
     let x = saidBy k b in
     test (badName x) 6
-    ∷ test (badOperator k b) 7
+    ∷ test (badValue k b) 7
+    ∷ test (ruleHeld h x) 15
     ∷ test (badDepth x) 8
     ∷ test (badOrder x) 14
     ∷ test (alreadyHeld h x) 9

@@ -10,6 +10,8 @@ use mir.Syntax.{w32}
 use mir.Val.{ofZ}
 use Rattle.codec.specs.Bytes.{bytes, bytesOfSigned32}
 use Rattle.terms.specs.declared.Settings.{Settings}
+use Rattle.terms.specs.declared.Counting.{Counting}
+use Rattle.terms.specs.declared.Counting.the-variants.{Old, New}
 use Rattle.terms.specs.declared.Operator.{Operator}
 use Rattle.terms.specs.declared.Operator.the-variants.{Within, Between, Above, Below, Anywhere}
 use Rattle.terms.specs.declared.Rule.{Rule}
@@ -17,6 +19,7 @@ use Rattle.terms.specs.declared.Rule.the-variants.{Label, Both, Link, Via}
 use Rattle.terms.specs.declared.Atom.{Atom}
 use Rattle.terms.specs.declared.Atom.the-variants.{Has, Linked}
 use Rattle.terms.specs.Limits.{ITEMS, KINDS, LABELS, EVERY, NEVER, isItem, isKind, isLeft, isConcluded, isMarked}
+use Rattle.terms.specs.Counted.{countingNumber}
 use Rattle.terms.specs.Operators.{codeOf, distanceOf, isOperator}
 use Rattle.terms.specs.Held.{operatorIn, isNamed, isMarkable}
 use Rattle.terms.specs.Ends.{mark-markable}
@@ -87,11 +90,16 @@ mark-small (Linked a r b) t d p =
     let v = and-both (isKind r) (isItem b) (w .1) in
     (item-small a (w .0), (kind-small r (v .0), (item-small b (v .1), ends-small t d)))
 
+counting-small : (c : Counting) → countingNumber c < 256
+counting-small Old = omega arith
+counting-small New = omega arith
+
 body-small : (c : Command) → T (isChange c) → Bytes (changeBody c)
 body-small Command.Reset t = tt
 body-small (Command.Add ρ) t = rule-small ρ (and-both (isOperator (operatorIn ρ)) (isNamed ρ) t .1)
 body-small (Command.Put m) t = mark-small (m .atom) (m .top) (m .bottom) (mark-markable m t)
 body-small (Command.Take m) t = mark-small (m .atom) (m .top) (m .bottom) (mark-markable m t)
+body-small (Command.Count c) t = (counting-small c, tt)
 body-small (Command.Ask q) t = absurd t
 
 pub written : (σ : Settings) (c : Command) → T (isChange c) → Written σ c

@@ -1,10 +1,11 @@
 -- 01's records: the frame, the fields of each kind's body, and the lengths.
-use mathlib.Core.Bool.{Bool, true, false, cond}
+use mathlib.Core.Bool.{Bool, true, false, not, cond}
 use mathlib.Core.List.{List}
 use Prim.Native.Nat.{ℕ, _+_, _-_}
 use lib.Dec.{eqb, ltb, leb}
 use lib.ListN.{length, getD, take, drop}
 use Rattle.codec.specs.Bytes.{little, signed32At, signed64At}
+use Rattle.terms.specs.declared.Counting.{Counting}
 use Rattle.terms.specs.declared.OperatorRead.{OperatorRead}
 use Rattle.terms.specs.declared.OperatorRead.the-variants.{Valid, Invalid}
 use Rattle.terms.specs.declared.Rule.{Rule}
@@ -13,6 +14,7 @@ use Rattle.terms.specs.declared.Atom.the-variants.{Has, Linked}
 use Rattle.terms.specs.declared.Mark.{Mark}
 use Rattle.terms.specs.declared.Question.{Question}
 use Rattle.terms.specs.declared.Question.the-variants as Question
+use Rattle.terms.specs.Countings.{isCounting, countingOf}
 use Rattle.terms.specs.Operators.{operatorOf, orIdentity}
 use Rattle.terms.specs.Refusals.{rank}
 use Rattle.records.specs.declared.Lengths.{Lengths}
@@ -67,6 +69,13 @@ labelStretch b = record { atom = Has (getD b 0 0) (getD b 1 0); top = signed32At
 abbrev pub linkStretch : List ℕ → Mark
 linkStretch b = record { atom = Linked (getD b 0 0) (getD b 1 0) (getD b 2 0); top = signed32At b 3; bottom = signed32At b 7 }
 
+-- 02, Slip 4: the counting's number
+abbrev pub countingAt : List ℕ → Counting
+countingAt b = countingOf (getD b 0 0)
+
+abbrev pub isNoCounting : List ℕ → Bool
+isNoCounting b = not (isCounting (getD b 0 0))
+
 -- 01, Records: the questions
 abbrev pub labelQuestion : List ℕ → Question
 labelQuestion b = Question.Holds (Has (getD b 0 0) (getD b 1 0)) (signed64At b 2)
@@ -90,7 +99,7 @@ isUnknown (Lengths.Exactly n) = false
 isUnknown (Lengths.AtLeast n) = false
 isUnknown Lengths.Unknown = true
 
--- 01, Records: the length of each kind's records; 02, Slip 2: the stretches
+-- 01, Records: the length of each kind's records; 02, Slip 2: the stretches; Slip 4: the counting
 unfoldable pub lengthsOf : ℕ → Lengths
 lengthsOf k =
     cond (eqb k 1) (Lengths.Exactly 2)
@@ -109,7 +118,8 @@ lengthsOf k =
     (cond (eqb k 14) (Lengths.Exactly 13)
     (cond (eqb k 15) (Lengths.Exactly 12)
     (cond (eqb k 16) (Lengths.Exactly 13)
-    Lengths.Unknown)))))))))))))))
+    (cond (eqb k 17) (Lengths.Exactly 3)
+    Lengths.Unknown))))))))))))))))
 
 -- 01, Where a record is turned away: bytes used are 0 for what is judged before 3, all that is left for 3, else length + 2
 abbrev pub usedFor : ℕ → List ℕ → ℕ

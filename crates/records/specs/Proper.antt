@@ -12,6 +12,8 @@ use mir.Val.{SFits, toZ, ofZ}
 use mir.ValLaws.{ofZ-fits, toZ-ofZ}
 use Rattle.codec.specs.Bytes.{little, bytes, bytesOfSigned32}
 use Rattle.codec.proofs.Laws.{little-bytes}
+use Rattle.terms.specs.declared.Counting.{Counting}
+use Rattle.terms.specs.declared.Counting.the-variants.{Old, New}
 use Rattle.terms.specs.declared.Operator.{Operator}
 use Rattle.terms.specs.declared.OperatorRead.{OperatorRead}
 use Rattle.terms.specs.declared.OperatorRead.the-variants.{Valid, Invalid}
@@ -22,6 +24,8 @@ use Rattle.terms.specs.declared.Atom.the-variants.{Has, Linked}
 use Rattle.terms.specs.declared.Mark.{Mark}
 use Rattle.terms.specs.declared.Question.{Question}
 use Rattle.terms.specs.declared.Settings.{Settings}
+use Rattle.terms.specs.Countings.{isCounting}
+use Rattle.terms.specs.Counted.{countingNumber}
 use Rattle.terms.specs.Operators.{operatorOf, codeOf, distanceOf, isOperator, orIdentity}
 use Rattle.terms.specs.Readings.{ProperRead, read-proper, operator-read, distance-fits, depth-fits}
 use Rattle.terms.specs.Held.{isNamed, isRule, isMark, isMarkable, isPlaced, isOrdered, isQuestion}
@@ -64,6 +68,7 @@ use Rattle.records.specs.Formats.{
   linkMark,
   labelStretch,
   linkStretch,
+  countingAt,
   labelQuestion,
   linkQuestion,
   spansQuestion,
@@ -73,12 +78,13 @@ use Rattle.records.specs.Formats.{
 }
 use Rattle.records.specs.Frame.{recordBytes, parse-record}
 
--- a command whose names, operator and ends are in range; a question's depth may be any
+-- a command whose names, operator and ends are in range; a question's depth may be any, and so may a counting
 abbrev pub Proper : Command → Bool
 Proper Command.Reset = true
 Proper (Command.Add ρ) = isRule ρ
 Proper (Command.Put m) = isMark m
 Proper (Command.Take m) = isMark m
+Proper (Command.Count c) = true
 Proper (Command.Ask q) = isQuestion q
 
 -- ---- the table, row by row
@@ -189,7 +195,10 @@ body-proper σ k b =
                                 mark-test (linkStretch b) (Command.Put (linkStretch b)) (λ t. t) σ,
                                 (
                                   mark-test (labelStretch b) (Command.Take (labelStretch b)) (λ t. t) σ,
-                                  (mark-test (linkStretch b) (Command.Take (linkStretch b)) (λ t. t) σ, tt),
+                                  (
+                                    mark-test (linkStretch b) (Command.Take (linkStretch b)) (λ t. t) σ,
+                                    (one-test (isCounting (getD b 0 0)) 7 (Command.Count (countingAt b)) (λ t. tt), tt),
+                                  ),
                                 ),
                               ),
                             ),
@@ -228,6 +237,7 @@ isChange Command.Reset = true
 isChange (Command.Add ρ) = isRule ρ
 isChange (Command.Put m) = isMark m
 isChange (Command.Take m) = isMark m
+isChange (Command.Count c) = true
 isChange (Command.Ask q) = false
 
 -- 01, Records: an operator's code and n
@@ -262,6 +272,7 @@ changeKind Command.Reset = 1
 changeKind (Command.Add ρ) = kindOf ρ
 changeKind (Command.Put m) = putKind (m .atom)
 changeKind (Command.Take m) = takeKind (m .atom)
+changeKind (Command.Count c) = 17
 changeKind (Command.Ask q) = 0
 
 abbrev pub changeBody : Command → List ℕ
@@ -269,6 +280,7 @@ changeBody Command.Reset = []
 changeBody (Command.Add ρ) = ruleBody ρ
 changeBody (Command.Put m) = markBody (m .atom) (m .top) (m .bottom)
 changeBody (Command.Take m) = markBody (m .atom) (m .top) (m .bottom)
+changeBody (Command.Count c) = countingNumber c ∷ []
 changeBody (Command.Ask q) = []
 
 -- a change as a record
@@ -351,12 +363,18 @@ module _ (σ : Settings) where
   take-decodes (Has a A) t d h = mark-decodes (λ (m : Mark). Command.Take m) 15 (Has a A) t d refl h
   take-decodes (Linked a r b) t d h = mark-decodes (λ (m : Mark). Command.Take m) 16 (Linked a r b) t d refl h
 
+  count-decodes : (c : Counting) → decodeBody σ 17 (countingNumber c ∷ []) ≡ Decoded.Command (Command.Count c)
+  unfolding bodyTests commandIn
+  count-decodes Old = refl
+  count-decodes New = refl
+
   change-decodes : (c : Command) → T (isChange c) → decodeBody σ (changeKind c) (changeBody c) ≡ Decoded.Command c
   unfolding bodyTests commandIn
   change-decodes Command.Reset t = refl
   change-decodes (Command.Add ρ) t = rule-decodes ρ t
   change-decodes (Command.Put m) t = put-decodes (m .atom) (m .top) (m .bottom) t
   change-decodes (Command.Take m) t = take-decodes (m .atom) (m .top) (m .bottom) t
+  change-decodes (Command.Count c) t = count-decodes c
   change-decodes (Command.Ask q) t = absurd t
 
 -- a body that has a length of its kind, below the largest
@@ -388,6 +406,7 @@ fitting Command.Reset t = record { allowed = tt; small = omega arith; short = om
 fitting (Command.Add ρ) t = fitting-rule ρ
 fitting (Command.Put m) t = fitting-put (m .atom) (m .top) (m .bottom)
 fitting (Command.Take m) t = fitting-take (m .atom) (m .top) (m .bottom)
+fitting (Command.Count c) t = record { allowed = tt; small = omega arith; short = omega arith }
 fitting (Command.Ask q) t = absurd t
 
 -- a change in range, written, reads back, and all of its bytes are used

@@ -34,6 +34,8 @@ use Rattle.records.specs.Formats.{
   linkMark,
   labelStretch,
   linkStretch,
+  countingAt,
+  isNoCounting,
   labelQuestion,
   linkQuestion,
   spansQuestion,
@@ -57,6 +59,10 @@ operatorTests σ r ρ = test (not (isNamed ρ)) 6 ∷ test (isInvalid r) 7 ∷ [
 abbrev pub markTests : Settings → Mark → List Test
 markTests σ m = test (not (isMarkable (m .atom))) 6 ∷ test (not (isPlaced m)) 8 ∷ test (not (isOrdered m)) 14 ∷ []
 
+-- 02, Slip 4: what is no counting is number 7
+abbrev pub countingTests : List ℕ → List Test
+countingTests b = test (isNoCounting b) 7 ∷ []
+
 abbrev pub questionTests : Settings → Question → List Test
 questionTests σ q = test (not (isQuestion q)) 6 ∷ []
 
@@ -71,7 +77,7 @@ pub record Kind : Type 0 where
 abbrev pub kind : ℕ → (Settings → List ℕ → List Test) → (List ℕ → Command) → Kind
 kind n t c = record { number = n; tests = t; command = c }
 
--- 01, Records: the table; 02, Slip 2: the stretches
+-- 01, Records: the table; 02, Slip 2: the stretches; Slip 4: the counting
 abbrev pub kinds : List Kind
 kinds =
     kind 1 (λ σ b. []) (λ b. Command.Reset)
@@ -90,6 +96,7 @@ kinds =
     ∷ kind 14 (λ σ b. markTests σ (linkStretch b)) (λ b. Command.Put (linkStretch b))
     ∷ kind 15 (λ σ b. markTests σ (labelStretch b)) (λ b. Command.Take (labelStretch b))
     ∷ kind 16 (λ σ b. markTests σ (linkStretch b)) (λ b. Command.Take (linkStretch b))
+    ∷ kind 17 (λ σ b. countingTests b) (λ b. Command.Count (countingAt b))
     ∷ []
 
 -- what f says of the row of a kind; d for a kind that the table has not, which the frame refuses before its body is looked at
@@ -119,6 +126,9 @@ asPut σ m = decodedAs (tested (markTests σ m)) (Command.Put m)
 
 abbrev pub asTake : Settings → Mark → Decoded
 asTake σ m = decodedAs (tested (markTests σ m)) (Command.Take m)
+
+abbrev pub asCounting : List ℕ → Decoded
+asCounting b = decodedAs (tested (countingTests b)) (Command.Count (countingAt b))
 
 abbrev pub asQuestion : Settings → Question → Decoded
 asQuestion σ q = decodedAs (tested (questionTests σ q)) (Command.Ask q)

@@ -9,7 +9,7 @@ ghost use Rattle.terms.specs.Held.{isNamed};
 ghost use Rattle.terms.specs.Refusals.{test, tested as testedBy};
 ghost use Rattle.terms.specs.Otherwise.{orElse};
 ghost use Rattle.records.specs.declared.Command.the-variants as To;
-ghost use Rattle.records.specs.Records.{markTests, asRule, asOperatorRule, asPut, asTake, asQuestion, kindTests, decodedAs, decodeBody, framed};
+ghost use Rattle.records.specs.Records.{markTests, asRule, asOperatorRule, asPut, asTake, asCounting, asQuestion, kindTests, decodedAs, decodeBody, framed};
 ghost use Rattle.records.specs.Formats.{
   operatorAt,
   labelRule,
@@ -28,6 +28,7 @@ ghost use Rattle.records.specs.Formats.{
 };
 ghost use Rattle.records.specs.Frame.{framedAs};
 use terms::Atom;
+use terms::Counting;
 use terms::Mark;
 use terms::Operator;
 use terms::Question;
@@ -41,6 +42,7 @@ pub enum Command {
     Add(Rule),
     Put(Mark),
     Take(Mark),
+    Count(Counting),
     Ask(Question),
 }
 
@@ -85,6 +87,7 @@ fn lengths_of(kind: u16) -> Lengths
         14 => Lengths::Exactly(13),
         15 => Lengths::Exactly(12),
         16 => Lengths::Exactly(13),
+        17 => Lengths::Exactly(3),
         _ => Lengths::Unknown,
     }
 }
@@ -258,6 +261,18 @@ fn ask_spans(settings: Settings, body: &[u8]) -> Decoded
     ask(settings, Question::Spans(body[0], body[1]))
 }
 
+// The number of a counting.
+fn count(body: &[u8]) -> Decoded
+    requires { ⌜ length (now body) ≡ 1 ⌝ }
+    ensures { λ r. ⌜ r ≡ asCounting (now (body .entry)) ⌝ }
+{
+    let number = body[0];
+    decoded_as(
+        Tested::unless(terms::is_counting(number), 7),
+        Command::Count(Counting::of(number)),
+    )
+}
+
 // The table of kinds: decoders. The frame lets no other kind come here.
 pub fn decode_body(settings: Settings, kind: u16, body: &[u8]) -> Decoded
     requires { ⌜ T (allows (lengthsOf kind) (length (now body) + 2)) ⌝ }
@@ -280,6 +295,7 @@ pub fn decode_body(settings: Settings, kind: u16, body: &[u8]) -> Decoded
         14 => put(settings, link_stretch(body)),
         15 => take(settings, label_stretch(body)),
         16 => take(settings, link_stretch(body)),
+        17 => count(body),
         _ => Decoded::Refused(4),
     }
 }

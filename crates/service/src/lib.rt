@@ -202,6 +202,7 @@ fn work(
         Command::Add(rule) => keep(block, state.with_rule(rule), used),
         Command::Put(mark) => keep(block, state.put(mark), used),
         Command::Take(mark) => keep(block, state.take(mark), used),
+        Command::Count(counting) => keep(block, state.count(counting), used),
         Command::Ask(question) => {
             let answer = answer(state, labels, links, spans, question);
             Reply { answer, used }

@@ -27,6 +27,10 @@ putTests h m =
 abbrev pub takeTests : Held → Mark → List Test
 takeTests h m = test (not (some (sameMark m) (h .marks))) 10 ∷ []
 
+-- 02, Slip 4: kind 17 while a rule is held
+abbrev pub countTests : Held → List Test
+countTests h = test (ltb 0 (length (h .rules))) 15 ∷ []
+
 -- 01, The book: kinds 2 to 5 add their rule at the end of its list, kinds 6 and 7 their mark
 abbrev pub addRule : Held → Rule → Held
 addRule h ρ = withRules h (h .rules ++ (ρ ∷ []))

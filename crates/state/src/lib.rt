@@ -5,13 +5,14 @@ ghost use Prim.Native.Nat.{_+_, _-_, _≤_, _<_};
 ghost use lib.Dec.{T};
 ghost use lib.ListN.{take, drop};
 ghost use Rattle.terms.specs.Limits.{RULES, MARKS};
-ghost use Rattle.terms.specs.Held.{isMark};
+ghost use Rattle.terms.specs.Held.{withCounting, isMark};
 ghost use Rattle.terms.specs.Places.{Marks-named};
 ghost use Rattle.terms.specs.Lists.{limits};
 ghost use Rattle.terms.specs.Refusals.{tested as testedBy};
 ghost use Rattle.state.specs.State.{Counts-in, heldOf, emptyState, Listed-as};
-ghost use Rattle.state.specs.Changes.{ruleTests, putTests, takeTests, addRule, putMark, takeMark};
+ghost use Rattle.state.specs.Changes.{ruleTests, putTests, takeTests, countTests, addRule, putMark, takeMark};
 ghost use Rattle.state.specs.Holding.{Holds};
+use terms::Counting;
 use terms::DEPTHS;
 use terms::MARKS;
 use terms::Mark;
@@ -191,6 +192,27 @@ impl State {
         Listed {
             tested: Tested::Refused(10),
             state: self,
+        }
+    }
+
+    // The counting set, where no rule is held that was written for another.
+    pub fn count(self, counting: Counting) -> Listed
+        requires { ⌜ Counts-in self ⌝ }
+        ensures { λ r. ⌜ Listed-as (countTests (heldOf self)) (heldOf self) (withCounting (heldOf self) counting) r ⌝ }
+    {
+        let rules_held = self.rule_count;
+        if 0 < rules_held {
+            return Listed {
+                tested: Tested::Refused(15),
+                state: self,
+            };
+        }
+        let settings = Settings { counting };
+        let mut state = self;
+        state.settings = settings;
+        Listed {
+            tested: Tested::Passed,
+            state,
         }
     }
 

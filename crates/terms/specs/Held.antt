@@ -12,6 +12,8 @@ use Rattle.terms.specs.declared.Atom.the-variants.{Has, Linked}
 use Rattle.terms.specs.declared.Mark.{Mark}
 use Rattle.terms.specs.declared.Question.{Question}
 use Rattle.terms.specs.declared.Question.the-variants as Question
+use Rattle.terms.specs.declared.Counting.{Counting}
+use Rattle.terms.specs.declared.Counting.the-variants.{Old}
 use Rattle.terms.specs.declared.Settings.{Settings}
 use Rattle.terms.specs.Limits.{isItem, isKind, isLeft, isConcluded, isMarked, isLabel, isDepth}
 use Rattle.terms.specs.Operators.{isOperator}
@@ -20,10 +22,11 @@ infix 50 _∈_
 abbrev pub _∈_ : {X : Type 0} → X → List X → Type 0
 x ∈ xs = List·Memᴰ x xs
 
--- 01, The book: what RESET sets beside the lists, and what may be set; nothing is set yet
+-- 01, The book: what RESET sets beside the lists; 02, Slip 4: it goes back to the old counting
 abbrev pub freshSettings : Settings
-freshSettings = record {}
+freshSettings = record { counting = Old }
 
+-- and what may be set: either counting
 abbrev pub isSettings : Settings → Bool
 isSettings s = true
 
@@ -38,6 +41,13 @@ withRules h rs = record { rules = rs; marks = h .marks; settings = h .settings }
 
 abbrev pub withMarks : Held → List Mark → Held
 withMarks h ms = record { rules = h .rules; marks = ms; settings = h .settings }
+
+-- 02, Slip 4: the counting in force, and another set
+abbrev pub countingIn : Held → Counting
+countingIn h = h .settings .counting
+
+abbrev pub withCounting : Held → Counting → Held
+withCounting h c = record { rules = h .rules; marks = h .marks; settings = record { counting = c } }
 
 -- 01, The book: both lists empty at first, and nothing set
 abbrev pub emptyHeld : Held

@@ -4,6 +4,7 @@ pub mod Limits
 pub mod Stated
 pub mod Refusals
 pub mod Otherwise
+pub mod Countings
 pub mod Operators
 pub mod Readings
 pub mod Answers
@@ -19,6 +20,7 @@ pub mod Limited
 pub mod Ranks
 pub mod Model
 pub mod Transfer
+pub mod Counted
 pub mod Depths
 pub mod Nearness
 pub mod Sets

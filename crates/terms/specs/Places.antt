@@ -1,7 +1,8 @@
 -- The places of the two lists in the state: what a free one holds, and what the first ones say.
 use mathlib.Core.Path.{_≡_}
+use mathlib.Core.Bool.{Bool}
 use mathlib.Core.List.{List, map}
-use Prim.Native.Nat.{ℕ, _≤_}
+use Prim.Native.Nat.{ℕ, _≤_, _<_}
 use lib.Dec.{T}
 use lib.IntN.{pos}
 use lib.ListN.{length, take, getD}
@@ -11,7 +12,7 @@ use Rattle.terms.specs.declared.RulePlace.{RulePlace}
 use Rattle.terms.specs.declared.Atom.the-variants.{Has}
 use Rattle.terms.specs.declared.Mark.{Mark}
 use Rattle.terms.specs.declared.Settings.{Settings}
-use Rattle.terms.specs.Limits.{MARKS}
+use Rattle.terms.specs.Limits.{RULES, MARKS}
 use Rattle.terms.specs.Held.{_∈_, Held, isMark}
 
 -- 01, State and tables: what a free place of the mark list holds
@@ -29,6 +30,12 @@ rulesIn ps n = map (λ p. p .rule) (take n ps)
 -- the rule in a place
 abbrev pub ruleAt : List RulePlace → ℕ → Rule
 ruleAt ps q = getD ps q emptyPlace .rule
+
+-- the first n places hold rules that pass
+pub record Rules-in (passes : Rule → Bool) (ps : List RulePlace) (n : ℕ) : Type 0 where
+  pub size : length ps ≡ RULES
+  pub few : n ≤ RULES
+  pub each : (q : ℕ) → q < n → T (passes (ruleAt ps q))
 
 -- the first marks are in range
 pub record Marks-named (ms : List Mark) (m : ℕ) : Type 0 where

@@ -1,12 +1,14 @@
 // The vocabulary: operators, rules, marks, answers and the paper's limits.
 ghost use mathlib.Core.Path.{_≡_};
 ghost use mathlib.Core.Bool.{cond};
-ghost use lib.Dec.{eqb};
+ghost use lib.Dec.{T, eqb};
 ghost use Rattle.terms.specs.Limits.{isItem, isKind, isLeft, isConcluded, isMarked, isLabel, isDepth};
 ghost use Rattle.terms.specs.Stated.{stated};
 ghost use Rattle.terms.specs.Otherwise.{orElse, readTested};
 ghost use Rattle.terms.specs.declared.Tested.the-variants as Came;
-ghost use Rattle.terms.specs.Operators.{readIf, operatorOf, codeOf, distanceOf, isOperator, orIdentity};
+ghost use Rattle.terms.specs.Operators.{readIf, isDistance, operatorOf, codeOf, distanceOf, isOperator, orIdentity};
+ghost use Rattle.terms.specs.Countings.{bound, isCounting, countingOf};
+ghost use Rattle.terms.specs.Counted.{counted, countedRule};
 ghost use Rattle.terms.specs.Answers.{numberOf, valueOf};
 ghost use Rattle.terms.specs.Held.{operatorIn, isSettings, isNamed, isRule, isMarkable, isStatement, isPlaced, isOrdered, isMark, isQuestion};
 
@@ -168,6 +170,42 @@ pub fn is_depth(depth: i32) -> bool
     (SHALLOWEST <= depth) & (depth <= DEEPEST)
 }
 
+// How WITHIN counts a distance: by the old counting it is less than n, by the new one at most n.
+pub enum Counting {
+    Old,
+    New,
+}
+
+// A number by which a record names a counting.
+pub fn is_counting(number: u8) -> bool
+    ensures { λ r. ⌜ r ≡ isCounting number ⌝ }
+{
+    (number == 1) | (number == 2)
+}
+
+impl Counting {
+    // The counting that a number names; the old one where it names none.
+    pub fn of(number: u8) -> Counting
+        ensures { λ r. ⌜ r ≡ countingOf number ⌝ }
+    {
+        if number == 2 {
+            return Counting::New;
+        }
+        Counting::Old
+    }
+
+    // What a distance within n is less than.
+    pub fn bound(self, n: u32) -> u32
+        requires { ⌜ T (isDistance n) ⌝ }
+        ensures { λ r. ⌜ r ≡ bound self n ⌝ }
+    {
+        match self {
+            Counting::Old => n,
+            Counting::New => n + 1,
+        }
+    }
+}
+
 // An operator with its distance inside it.
 pub enum Operator {
     Within(u32),
@@ -256,6 +294,20 @@ impl Operator {
             Operator::Anywhere => true,
         }
     }
+
+    // As it is applied: with the bound in the place of its distance.
+    pub fn counted(self, counting: Counting) -> Operator
+        requires { ⌜ T (isOperator self) ⌝ }
+        ensures { λ r. ⌜ r ≡ counted counting self ⌝ }
+    {
+        match self {
+            Operator::Within(n) => Operator::Within(counting.bound(n)),
+            Operator::Between => Operator::Between,
+            Operator::Above => Operator::Above,
+            Operator::Below => Operator::Below,
+            Operator::Anywhere => Operator::Anywhere,
+        }
+    }
 }
 
 impl OperatorRead {
@@ -316,6 +368,19 @@ impl Rule {
         ensures { λ r. ⌜ r ≡ isRule self ⌝ }
     {
         self.operator().in_range() & self.is_named()
+    }
+
+    // As it is applied: with its operator as that is applied.
+    pub fn counted(self, counting: Counting) -> Rule
+        requires { ⌜ T (isRule self) ⌝ }
+        ensures { λ r. ⌜ r ≡ countedRule counting self ⌝ }
+    {
+        match self {
+            Rule::Label(operator, a, b) => Rule::Label(operator.counted(counting), a, b),
+            Rule::Both(a, b, c) => Rule::Both(a, b, c),
+            Rule::Link(operator, r, s) => Rule::Link(operator.counted(counting), r, s),
+            Rule::Via(r, a, b) => Rule::Via(r, a, b),
+        }
     }
 }
 
@@ -413,12 +478,16 @@ impl Mark {
     }
 }
 
-// What records set until RESET beside the lists: nothing yet.
-pub struct Settings {}
+// What records set until RESET beside the lists.
+pub struct Settings {
+    pub counting: Counting,
+}
 
 impl Settings {
     // What RESET sets.
-    pub const FRESH: Settings = Settings {};
+    pub const FRESH: Settings = Settings {
+        counting: Counting::Old,
+    };
 
     pub fn in_range(self) -> bool
         ensures { λ r. ⌜ r ≡ isSettings self ⌝ }

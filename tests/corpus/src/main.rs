@@ -1,6 +1,6 @@
 //! Writes stored test inputs of the program and what it has to print.
-//! `corpus wells FOLDER`: a hundred wells with points, and fifty with points and stretches behind
-//! them; `corpus limits FOLDER`: inputs at the size limit.
+//! `corpus wells FOLDER`: a hundred wells with points, fifty with points and stretches behind them,
+//! and thirty whose rule lists name a counting; `corpus limits FOLDER`: inputs at the size limit.
 
 mod limits;
 mod well;
@@ -10,14 +10,17 @@ use model::listing::{listing, MAX_INPUT};
 use std::path::Path;
 use well::{Size, Well};
 
-const WELLS: u64 = 150;
+const WELLS: u64 = 180;
 /// From this well on a caliper gives stretches.
 const CALIPER: u64 = 100;
+/// From this well on rule lists name a counting, and there are two sections at least.
+const COUNTINGS: u64 = 150;
 
 /// From a few marks to full lists; each tenth well goes over its limits.
 fn size(number: u64) -> Size {
     let mut dice = Dice::new(1_000 + number);
     let large = number % 10;
+    let countings = number >= COUNTINGS;
     let size = Size {
         rules: 6 + 12 * large,
         marks: 5 + 25 * large,
@@ -25,12 +28,16 @@ fn size(number: u64) -> Size {
         step: dice.pick(&[3, 60, 400, 1_500]),
         deeper: 38,
         strict: dice.percent(25),
-        sections: 1 + u64::from(number % 7 == 3) + 6 * u64::from(number == 99),
+        sections: 1
+            + u64::from(number % 7 == 3)
+            + 6 * u64::from(number == 99)
+            + u64::from(countings),
         broken_end: number == 42,
         stretches: match number < CALIPER {
             true => 0,
             false => dice.pick(&[20, 50, 80]),
         },
+        countings,
     };
     match large {
         8 => Size { deeper: 60, ..size },

@@ -1,5 +1,6 @@
 //! A well as a stream of records: rules, then a drilled section with questions in between. Where a
-//! caliper runs, marks are points and stretches, by the old kinds and the new ones.
+//! caliper runs, marks are points and stretches, by the old kinds and the new ones. Where rule lists
+//! name a counting, it is set before them; among the marks it is too late.
 
 use dice::Dice;
 use model::frame::{bytes, framed, wide_bytes};
@@ -27,6 +28,15 @@ const TOUCHES: u8 = 0;
 const FEEDS: u8 = 1;
 const SEALS: u8 = 2;
 
+/// What joins with its like, and the n of its rule.
+const JOINED: [(u8, u32); 5] = [
+    (SAND, 301),
+    (SHALE, 501),
+    (LIME, 401),
+    (GAS, 151),
+    (OIL, 151),
+];
+
 pub struct Size {
     pub rules: u64,
     pub marks: u64,
@@ -40,6 +50,8 @@ pub struct Size {
     pub broken_end: bool,
     /// How often, in percent, a mark is a stretch; nothing of it is drawn where this is 0.
     pub stretches: u64,
+    /// Whether rule lists name a counting; nothing of it is drawn where they don't.
+    pub countings: bool,
 }
 
 pub struct Well {
@@ -51,12 +63,10 @@ pub struct Well {
 }
 
 fn common_rules() -> Vec<Record> {
-    vec![
-        label(within(301), SAND, SAND),
-        label(within(501), SHALE, SHALE),
-        label(within(401), LIME, LIME),
-        label(within(151), GAS, GAS),
-        label(within(151), OIL, OIL),
+    let mut rules = JOINED
+        .map(|(seen, n)| label(within(n), seen, seen))
+        .to_vec();
+    rules.extend([
         label(whole(ABOVE), SHOE, CASED),
         label(whole(BELOW), WATER, WET),
         label(whole(BETWEEN), UNIT, UNIT),
@@ -69,7 +79,8 @@ fn common_rules() -> Vec<Record> {
         via(FEEDS, RESERVOIR, FED),
         via(SEALS, SHALE, SEALED),
         both(FED, SEALED, PAY),
-    ]
+    ]);
+    rules
 }
 
 impl Well {
@@ -115,9 +126,36 @@ impl Well {
             self.send(Record::Reset);
             self.marks.clear();
         }
+        if self.size.countings {
+            self.set_counting();
+        }
         self.rules();
+        if self.size.countings {
+            (0..3).for_each(|_| self.see_again());
+        }
         (0..self.size.marks).for_each(|_| self.drill());
         self.report();
+    }
+
+    /// One counting after the other, the last of which counts, or none; now and then behind marks.
+    fn set_counting(&mut self) {
+        if self.dice.percent(30) {
+            (0..4).for_each(|_| self.drill());
+        }
+        let named: [&[u8]; 7] = [&[], &[1], &[2], &[2], &[1, 2], &[2, 2, 1], &[2, 3]];
+        let named = self.dice.pick(&named);
+        named.iter().for_each(|&value| self.send(counting(value)));
+    }
+
+    /// The same seen again as far down as its rule reaches, or one more or less, and asked about
+    /// between the two: the counting decides.
+    fn see_again(&mut self) {
+        let (seen, n) = self.dice.pick(&JOINED);
+        let (fact, first) = (has(self.item(), seen), self.depth);
+        self.depth += i64::from(n) + self.dice.pick(&[-1, 0, 1]);
+        let both = [first, self.depth].map(|depth| Mark::point(fact, depth as i32));
+        both.into_iter().for_each(|mark| self.see(mark));
+        self.send(query(fact, first + 1));
     }
 
     fn rules(&mut self) {
@@ -189,8 +227,7 @@ impl Well {
             self.depth += self.dice.between(1, self.size.step);
         }
         let mark = self.mark();
-        self.send_mark(Record::Put(mark));
-        self.marks.push(mark);
+        self.see(mark);
         match self.dice.below(24) {
             0 => self.take_back(),
             1 => self.mistake(),
@@ -198,6 +235,11 @@ impl Well {
             6 => self.ask_spans(),
             _ => {}
         }
+    }
+
+    fn see(&mut self, mark: Mark) {
+        self.send_mark(Record::Put(mark));
+        self.marks.push(mark);
     }
 
     fn take_back(&mut self) {
@@ -208,7 +250,11 @@ impl Well {
     /// Something that is turned away, most often for what it says.
     fn mistake(&mut self) {
         let mark = self.dice.pick(&self.marks);
-        let sorts = if self.caliper() { 14 } else { 7 };
+        let sorts = match (self.caliper(), self.size.countings) {
+            (false, _) => 7,
+            (true, false) => 14,
+            (true, true) => 18,
+        };
         match self.dice.below(sorts) {
             0 => self.send(Record::Put(mark)),
             1 => self.send(put(has(16, SAND), mark.top)),
@@ -230,7 +276,21 @@ impl Well {
             10 => self.send(put_from_to(fact, top, DEEPEST + 1)),
             11 => self.send(put_from_to(fact, DEEPEST + 1, bottom)),
             12 => self.send(take(fact, top)),
-            _ => self.stream.extend(framed(23, &[1])),
+            13 => self.stream.extend(framed(23, &[1])),
+            sort => self.counting_mistake(sort),
+        }
+    }
+
+    /// A counting among the marks, which is turned away once rules are held, or what is none.
+    fn counting_mistake(&mut self, sort: u64) {
+        let (known, unknown) = (self.dice.pick(&[1, 2]), self.dice.pick(&[0, 3, 255]));
+        match sort {
+            14 | 15 => self.send(counting(known)),
+            16 => self.send(counting(unknown)),
+            _ => {
+                let body = vec![known; self.dice.pick(&[0, 2])];
+                self.stream.extend(framed(17, &body));
+            }
         }
     }
 

@@ -1,8 +1,11 @@
-//! Cases with stretches that a run has to meet, each by its name.
+//! Cases with stretches and with countings that a run has to meet, each by its name.
 
-use model::block::read;
+use crate::distance::{starts, Start};
+use model::block::{read, COUNTING_AT};
+use model::derive::Collection;
 use model::frame;
 use model::held::Held;
+use model::terms::Counting::{New, Old};
 use model::terms::*;
 
 const DONE: Answer = Answer::Done;
@@ -11,6 +14,9 @@ const DONE: Answer = Answer::Done;
 pub struct Seen {
     /// What the block's places show, whether records lead to it or not.
     shown: Held,
+    /// The block's byte for the counting, whatever it is.
+    counting_byte: u8,
+    length: u16,
     kind: u16,
     record: Option<Record>,
     answer: Answer,
@@ -21,7 +27,9 @@ impl Seen {
         let frame = frame::split(input).ok();
         Seen {
             shown: read(block).unwrap_or_default(),
-            kind: frame.as_ref().map_or(0, |frame| frame.kind),
+            counting_byte: block[COUNTING_AT],
+            length: number_at(input, 0),
+            kind: number_at(input, 2),
             record: frame.as_ref().map(frame::read),
             answer,
         }
@@ -74,6 +82,69 @@ impl Seen {
         })
     }
 
+    /// A record of kind 17 with that answer, which names a counting that fits, or none.
+    fn named(&self, answer: Answer, fits: impl Fn(Option<Counting>) -> bool) -> bool {
+        matches!(self.record, Some(Record::Counting(value))
+            if self.answer == answer && fits(Counting::named(value)))
+    }
+
+    fn in_force(&self, named: Option<Counting>) -> bool {
+        named == Some(self.shown.counting)
+    }
+
+    /// A counting other than the one in force was set.
+    fn set(&self, counting: Counting) -> bool {
+        self.named(DONE, |named| {
+            named == Some(counting) && !self.in_force(named)
+        })
+    }
+
+    fn refused_length(&self, kind: u16, length: u16) -> bool {
+        let five = self.answer == Answer::Refused(5);
+        five && self.kind == kind && self.length == length
+    }
+
+    /// A question by that counting, with that answer, about what a held WITHIN n concludes between
+    /// two held marks that are n and so many more apart.
+    fn between(&self, counting: Counting, answer: Answer, more: i64) -> bool {
+        let Some(Record::Query(fact, depth)) = self.record else {
+            return false;
+        };
+        let concluding = || starts(&self.shown).filter(|start| start.concluded == fact);
+        let gap = |j: Start, k: Start| {
+            let (bottom, top) = (i64::from(j.mark.bottom), i64::from(k.mark.top));
+            let same = j.mark.fact == k.mark.fact && j.n == k.n;
+            same && bottom < depth && depth < top && top - bottom == i64::from(j.n) + more
+        };
+        let mut firsts = concluding();
+        self.shown.counting == counting
+            && self.answer == answer
+            && firsts.any(|j| concluding().any(|k| gap(j, k)))
+    }
+
+    /// Whether what is asked holds by that counting.
+    fn holds_by(&self, counting: Counting) -> bool {
+        let Some(Record::Query(fact, depth)) = self.record else {
+            return false;
+        };
+        let held = Held {
+            counting,
+            ..self.shown.clone()
+        };
+        Collection::least(&held).of(fact).has(depth)
+    }
+
+    /// A block with rules, marks and the new counting that was not turned away.
+    fn good_counting(&self) -> bool {
+        let turned_away = [Answer::Refused(1), Answer::Refused(2)].contains(&self.answer);
+        !turned_away && self.counting_byte == 1 && ruled(&self.shown) && marked(&self.shown)
+    }
+
+    /// A block with rules in which nothing but the counting is wrong.
+    fn bad_counting(&self) -> bool {
+        self.counting_byte > 1 && self.bad_block(|held| ruled(held) && held.reachable())
+    }
+
     /// A refused block whose marks fit.
     fn bad_block(&self, fits: impl Fn(&Held) -> bool) -> bool {
         self.answer == Answer::Refused(2) && fits(&self.shown)
@@ -82,6 +153,20 @@ impl Seen {
     fn bad_mark(&self, fits: fn(Mark) -> bool) -> bool {
         self.bad_block(|held| held.marks.iter().any(|&mark| fits(mark)))
     }
+}
+
+/// The two bytes at a place of the input, as far as it goes.
+fn number_at(input: &[u8], at: usize) -> u16 {
+    let byte = |at| input.get(at).copied().unwrap_or(0);
+    u16::from_le_bytes([byte(at), byte(at + 1)])
+}
+
+fn ruled(held: &Held) -> bool {
+    !held.rules.is_empty()
+}
+
+fn marked(held: &Held) -> bool {
+    !held.marks.is_empty()
 }
 
 fn stretch(mark: Mark) -> bool {
@@ -117,7 +202,7 @@ fn nest(held: Mark, new: Mark) -> bool {
 
 type Case = (&'static str, fn(&Seen) -> bool);
 
-pub const CASES: [Case; 27] = [
+pub const CASES: [Case; 44] = [
     ("stretch put", |s| s.put(DONE, stretch)),
     ("stretch taken", |s| s.take(DONE, stretch)),
     ("question inside", Seen::question_inside),
@@ -163,4 +248,39 @@ pub const CASES: [Case; 27] = [
     ("block with 97 ends", |s| {
         s.bad_block(|held| held.ends().len() > MAX_DEPTHS)
     }),
+    ("new counting set", |s| s.set(New)),
+    ("old counting set", |s| s.set(Old)),
+    ("old counting by reset", |s| {
+        s.record == Some(Record::Reset) && s.answer == DONE && s.shown.counting == New
+    }),
+    ("counting in force set", |s| {
+        s.named(DONE, |named| s.in_force(named))
+    }),
+    ("counting set with marks", |s| {
+        marked(&s.shown) && s.named(DONE, |named| !s.in_force(named))
+    }),
+    ("15 for the counting in force", |s| {
+        s.named(Answer::Refused(15), |named| s.in_force(named))
+    }),
+    ("15 for the other counting", |s| {
+        s.named(Answer::Refused(15), |named| !s.in_force(named))
+    }),
+    ("counting 7 without a rule", |s| {
+        !ruled(&s.shown) && s.named(Answer::Refused(7), |_| true)
+    }),
+    ("counting 7 with a rule", |s| {
+        ruled(&s.shown) && s.named(Answer::Refused(7), |_| true)
+    }),
+    ("short counting", |s| s.refused_length(17, 2)),
+    ("long counting", |s| s.refused_length(17, 4)),
+    ("n - 1 apart by the old", |s| {
+        s.between(Old, Answer::Yes, -1)
+    }),
+    ("n apart by the old", |s| s.between(Old, Answer::No, 0)),
+    ("n apart by the new alone", |s| {
+        s.between(New, Answer::Yes, 0) && !s.holds_by(Old)
+    }),
+    ("n + 1 apart by the new", |s| s.between(New, Answer::No, 1)),
+    ("block with the new counting", Seen::good_counting),
+    ("block with another counting", Seen::bad_counting),
 ];

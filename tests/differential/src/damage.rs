@@ -2,7 +2,7 @@
 
 use crate::source::{Source, EDGE_DEPTHS};
 use dice::Dice;
-use model::block::{mark_place, MARKS_AT, MARK_PLACE, RULES_AT, RULE_PLACE, SIZE};
+use model::block::{mark_place, COUNTING_AT, MARKS_AT, MARK_PLACE, RULES_AT, RULE_PLACE, SIZE};
 use model::frame::{four, framed};
 use model::service::{Lent, Memory};
 use model::short::{from_to, has};
@@ -29,7 +29,7 @@ fn random_bytes(dice: &mut Dice, count: u64) -> Vec<u8> {
 /// Damages the bytes of one record, or leaves too few of them.
 pub fn damage(dice: &mut Dice, mut bytes: Vec<u8>) -> Vec<u8> {
     let size = bytes.len() as u64;
-    match dice.below(8) {
+    match dice.below(9) {
         0 => {
             let bit = dice.below(size * 8);
             bytes[(bit / 8) as usize] ^= 1 << (bit % 8);
@@ -37,9 +37,10 @@ pub fn damage(dice: &mut Dice, mut bytes: Vec<u8>) -> Vec<u8> {
         1 => bytes.truncate(dice.below(size) as usize),
         2 => bytes[0] = dice.pick(&[0, 1, 2, 3, bytes[0] - 1, bytes[0] + 1, 255]),
         3 => bytes[1] = dice.pick(&[0, 1, 255]),
-        4 => bytes[2] = dice.pick(&[0, 6, 12, 13, 14, 15, 16, 17, 255]),
+        4 => bytes[2] = dice.pick(&[0, 6, 12, 13, 14, 15, 16, 17, 18, 255]),
         5 => bytes[3] = dice.pick(&[1, 2, 128, 255]),
         6 => bytes = framed(u16::from(bytes[2]), &bytes[4..bytes.len().max(5) - 1]),
+        7 => bytes = framed(u16::from(bytes[2]), &[&bytes[4..], &[1]].concat()),
         _ => {
             let count = dice.below(20);
             bytes = random_bytes(dice, count);
@@ -166,9 +167,9 @@ fn move_end(dice: &mut Dice, block: &mut [u8]) {
     block[at..at + 4].copy_from_slice(&end.to_le_bytes());
 }
 
-/// Changes the block: a byte, an end, a double, one mark more, or everything.
+/// Changes the block: a byte, an end, a double, one mark more, the counting, or everything.
 pub fn spoil(dice: &mut Dice, block: &mut [u8]) {
-    match dice.below(16) {
+    match dice.below(18) {
         0 => block.fill_with(|| dice.word() as u8),
         1 | 2 => double(dice, block),
         3 => block[..4].copy_from_slice(&[128, 0, 0, 1]),
@@ -176,6 +177,7 @@ pub fn spoil(dice: &mut Dice, block: &mut [u8]) {
         6 => turn_over(dice, block),
         7 | 8 => move_end(dice, block),
         9 => block[some_mark(dice, block)] = dice.pick(&[0, 6, 7, 8, 13, 14]),
+        10 | 11 => block[COUNTING_AT] = dice.pick(&[0, 1, 2, 255]),
         _ => {
             let at = likely(dice, block);
             let now = block[at];

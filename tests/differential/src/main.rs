@@ -3,6 +3,7 @@
 
 mod cases;
 mod damage;
+mod distance;
 mod ends;
 mod plan;
 mod source;
@@ -22,7 +23,7 @@ fn argument(place: usize, default: u64) -> u64 {
 fn main() -> ExitCode {
     let (seconds, first_seed) = (argument(1, 100), argument(2, 1));
     let (start, limit) = (Instant::now(), Duration::from_secs(seconds));
-    let mut tally = Tally::default();
+    let mut tally = Tally::new();
     let seeds = (first_seed..).take_while(|_| start.elapsed() < limit);
     for seed in seeds {
         if let Err(difference) = Stream::new(seed).run(&mut tally) {

@@ -23,6 +23,12 @@ pub struct Plan {
     pub near: u64,
     /// Marks by the kinds 13 to 16 although both ends are equal.
     pub wide: u64,
+    /// Streams that start with the new counting.
+    pub new: u64,
+    /// Records that set a counting, or reset so that one can be set.
+    pub switches: u64,
+    /// Records about two marks as far apart as a held WITHIN reaches, or one more or less.
+    pub apart: u64,
     pub never: u64,
     pub edge: u64,
     pub damage: u64,
@@ -47,6 +53,9 @@ fn small(dice: &mut Dice) -> Plan {
         reversed: 4,
         near: 25,
         wide: dice.pick(&[0, 30, 100]),
+        new: 50,
+        switches: 2,
+        apart: 8,
         never: dice.pick(&[0, 0, 0, 4, 12]),
         edge: 2,
         damage: 1,
@@ -84,13 +93,15 @@ fn deep(dice: &mut Dice, plan: Plan) -> Plan {
     }
 }
 
-/// Points by the old kinds alone.
+/// Points by the old kinds and the old counting alone.
 fn points(plan: Plan) -> Plan {
     Plan {
         stretches: 0,
         reversed: 0,
         near: 0,
         wide: 0,
+        new: 0,
+        switches: 0,
         ..plan
     }
 }
@@ -101,13 +112,39 @@ fn long(plan: Plan) -> Plan {
         calls: 300,
         rules: 0,
         marks: 0,
+        new: 0,
+        ..plan
+    }
+}
+
+/// Few rules, so that the counting can be changed, and many a record that tries to.
+fn switching(dice: &mut Dice, plan: Plan) -> Plan {
+    Plan {
+        calls: 80,
+        rules: dice.below(3),
+        switches: 40,
+        edge: dice.pick(&[2, 10]),
+        damage: dice.pick(&[1, 20]),
+        ..plan
+    }
+}
+
+/// Few names, so that the distance between two marks decides a question.
+fn counted(plan: Plan) -> Plan {
+    Plan {
+        items: 2,
+        labels: 4,
+        kinds: 1,
+        rules: 1 + plan.rules / 4,
+        marks: 1 + plan.marks / 4,
+        apart: 70,
         ..plan
     }
 }
 
 pub fn plan(dice: &mut Dice) -> Plan {
     let plan = small(dice);
-    match dice.below(20) {
+    match dice.below(23) {
         0..=1 => plan,
         2 => points(plan),
         3 | 4 => Plan {
@@ -137,6 +174,8 @@ pub fn plan(dice: &mut Dice) -> Plan {
             short: 10,
             ..plan
         },
+        19 => switching(dice, plan),
+        20 | 21 => counted(plan),
         _ => full(dice, plan),
     }
 }

@@ -201,7 +201,27 @@ impl Source {
         }
     }
 
+    /// Either counting or none; now and then a RESET, behind which it can be set.
+    fn switch(&mut self) -> Record {
+        let usual = self.dice.pick(&[1, 2]);
+        let value = self.or_edge(usual, &[0, 3, 255]);
+        match self.dice.below(4) {
+            0 => Record::Reset,
+            _ => Record::Counting(value),
+        }
+    }
+
     pub fn record(&mut self, held: &Held) -> Record {
+        if self.dice.percent(self.plan.switches) {
+            return self.switch();
+        }
+        match self.dice.percent(self.plan.apart) {
+            true => self.apart(held).unwrap_or_else(|| self.usual(held)),
+            false => self.usual(held),
+        }
+    }
+
+    fn usual(&mut self, held: &Held) -> Record {
         match self.dice.below(100) {
             0 => Record::Reset,
             1..=17 => Record::Rule(self.rule_or_held(held, 8)),
@@ -231,9 +251,12 @@ impl Source {
         }
     }
 
-    /// Lists to start from, about as long as planned.
+    /// Lists to start from, about as long as planned, with either counting.
     pub fn held(&mut self) -> Held {
         let mut held = Held::default();
+        if self.dice.percent(self.plan.new) {
+            held.counting = Counting::New;
+        }
         let edge = std::mem::replace(&mut self.plan.edge, 0);
         let rules: Vec<_> = (0..self.plan.rules * 2).map(|_| self.rule()).collect();
         let marks: Vec<_> = (0..self.plan.marks * 2)

@@ -1,4 +1,4 @@
-//! How often each answer, each refusal and each case with stretches came up.
+//! How often each answer, each refusal and each case came up.
 
 use crate::cases::{Seen, CASES};
 use model::terms::{Answer, REFUSALS, REFUSAL_PLACES};
@@ -21,7 +21,7 @@ pub struct Tally {
     pub nulls: u64,
     answers: [u64; 7],
     refusals: [u64; REFUSAL_PLACES],
-    cases: [u64; CASES.len()],
+    cases: Vec<u64>,
 }
 
 /// Names with their numbers, parted by commas.
@@ -31,6 +31,13 @@ fn listed<N: std::fmt::Display>(pairs: impl Iterator<Item = (N, u64)>) -> String
 }
 
 impl Tally {
+    pub fn new() -> Tally {
+        Tally {
+            cases: vec![0; CASES.len()],
+            ..Tally::default()
+        }
+    }
+
     pub fn count(&mut self, answer: Answer) {
         let (number, value) = answer.numbers();
         self.calls += 1;
@@ -54,7 +61,7 @@ impl Tally {
 
     fn cases(&self) -> impl Iterator<Item = (String, u64)> + '_ {
         let names = CASES.iter().map(|(name, _)| format!("{name}:"));
-        names.zip(self.cases)
+        names.zip(self.cases.iter().copied())
     }
 
     pub fn print(&self) {
@@ -62,7 +69,7 @@ impl Tally {
         println!("{streams} streams, {calls} calls, {nulls} with a null pointer");
         println!("answers: {}", listed(NAMES.into_iter().zip(self.answers)));
         println!("refusals: {}", listed(self.refusals()));
-        println!("stretches: {}", listed(self.cases()));
+        println!("cases: {}", listed(self.cases()));
     }
 
     /// The refusals and cases that never came up.

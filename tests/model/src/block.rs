@@ -2,9 +2,10 @@
 
 use crate::frame::{four, label_fact, link_fact, stretch};
 use crate::held::Held;
-use crate::terms::{Fact, Mark, Operator, Rule, MAX_MARKS, MAX_RULES};
+use crate::terms::{Counting, Fact, Mark, Operator, Rule, MAX_MARKS, MAX_RULES};
 
 pub const SIZE: usize = 4_128;
+pub const COUNTING_AT: usize = 4;
 pub const RULES_AT: usize = 32;
 pub const MARKS_AT: usize = 1_056;
 pub const RULE_PLACE: usize = 8;
@@ -35,6 +36,10 @@ pub fn encode(held: &Held) -> Vec<u8> {
     let mut block = vec![0; SIZE];
     block[..2].copy_from_slice(&(held.rules.len() as u16).to_le_bytes());
     block[2..4].copy_from_slice(&(held.marks.len() as u16).to_le_bytes());
+    block[COUNTING_AT] = match held.counting {
+        Counting::Old => 0,
+        Counting::New => 1,
+    };
     block[RULES_AT..RULES_AT + rules.len()].copy_from_slice(&rules);
     block[MARKS_AT..MARKS_AT + marks.len()].copy_from_slice(&marks);
     block
@@ -64,7 +69,8 @@ fn read_mark(place: &[u8]) -> Option<Mark> {
     Some(stretch(fact, &place[4..]))
 }
 
-/// The lists as the places show them; none where a count or a place's kind is none.
+/// The lists as the places show them; none where a count or a place's kind is none. Any counting
+/// but 0 is read as the new one, and `decode` shows whether it is.
 pub fn read(block: &[u8]) -> Option<Held> {
     let rules = usize::from(u16::from_le_bytes([block[0], block[1]]));
     let marks = usize::from(u16::from_le_bytes([block[2], block[3]]));
@@ -73,7 +79,12 @@ pub fn read(block: &[u8]) -> Option<Held> {
     }
     let rule_places = block[RULES_AT..MARKS_AT].chunks(RULE_PLACE).take(rules);
     let mark_places = block[MARKS_AT..SIZE].chunks(MARK_PLACE).take(marks);
+    let counting = match block[COUNTING_AT] {
+        0 => Counting::Old,
+        _ => Counting::New,
+    };
     Some(Held {
+        counting,
         rules: rule_places.map(read_rule).collect::<Option<_>>()?,
         marks: mark_places.map(read_mark).collect::<Option<_>>()?,
     })
@@ -82,6 +93,6 @@ pub fn read(block: &[u8]) -> Option<Held> {
 /// The lists that a block of at least `SIZE` bytes holds; none where no run of records leads to it.
 pub fn decode(block: &[u8]) -> Option<Held> {
     let held = read(block)?;
-    // Encoding again shows stray bytes: unused fields, free places, the settings' room.
+    // Encoding again shows stray bytes: unused fields, free places, the settings.
     (held.reachable() && encode(&held) == block[..SIZE]).then_some(held)
 }

@@ -1,6 +1,6 @@
 //! Sets of depths over all integers, kept as their longest runs from shallow to deep.
 
-use crate::terms::{Operator, ABOVE, BELOW, BETWEEN, WITHIN};
+use crate::terms::{Counting, Operator, ABOVE, BELOW, BETWEEN, WITHIN};
 
 /// "No end" on either side. Finite ends stay near the marks, so these never meet one.
 pub const NO_TOP: i64 = i64::MIN;
@@ -62,15 +62,16 @@ impl Depths {
         Depths { runs }
     }
 
-    /// What the operator gives on this set: the specification's table, row by row.
-    pub fn under(&self, op: Operator) -> Depths {
+    /// What the operator gives on this set: the specification's table, row by row, with WITHIN by
+    /// the counting.
+    pub fn under(&self, op: Operator, counting: Counting) -> Depths {
         let (Some(&(least, _)), Some(&(_, greatest))) = (self.runs.first(), self.runs.last())
         else {
             return Depths::default();
         };
         match op.code {
             // A missing depth's nearest j and k are the ends of the runs beside it.
-            WITHIN => join(self.runs.clone(), i64::from(op.n)),
+            WITHIN => join(self.runs.clone(), counting.bound(op.n)),
             BETWEEN => Depths::run(least, greatest),
             ABOVE => Depths::run(NO_TOP, greatest),
             BELOW => Depths::run(least, NO_BOTTOM),

@@ -22,6 +22,7 @@ fn length_of(kind: u16) -> Option<usize> {
         10 | 13 | 15 => 12,
         11 | 14 | 16 => 13,
         12 => 4,
+        17 => 3,
         _ => return None,
     };
     Some(length)
@@ -131,7 +132,8 @@ pub fn read(frame: &Frame) -> Record {
         13 => Record::Put(stretch(label_fact(body), &body[2..])),
         14 => Record::Put(stretch(link_fact(body), &body[3..])),
         15 => Record::Take(stretch(label_fact(body), &body[2..])),
-        _ => Record::Take(stretch(link_fact(body), &body[3..])),
+        16 => Record::Take(stretch(link_fact(body), &body[3..])),
+        _ => Record::Counting(body[0]),
     }
 }
 
@@ -183,6 +185,7 @@ pub fn bytes(record: &Record) -> Vec<u8> {
         Record::Put(_) | Record::Take(_) => wide_bytes(record),
         Record::Query(fact, depth) => fact_bytes(10, *fact, &depth.to_le_bytes()),
         Record::Spans { item, label } => framed(12, &[*item, *label]),
+        Record::Counting(value) => framed(17, &[*value]),
     }
 }
 

@@ -1,10 +1,11 @@
-//! The held rules and marks, and refusals 9 to 12.
+//! The held rules and marks with the counting in force, and the refusals that look at them.
 
-use crate::terms::{Mark, Record, Rule, MAX_DEPTHS, MAX_MARKS, MAX_RULES};
+use crate::terms::{Counting, Mark, Record, Rule, MAX_DEPTHS, MAX_MARKS, MAX_RULES};
 use std::collections::{BTreeSet, HashSet};
 
 #[derive(Clone, Debug, Default, PartialEq, Eq)]
 pub struct Held {
+    pub counting: Counting,
     pub rules: Vec<Rule>,
     pub marks: Vec<Mark>,
 }
@@ -15,9 +16,11 @@ impl Held {
         self.marks.iter().flat_map(Mark::ends).collect()
     }
 
-    /// The first of refusals 9 to 12 that applies.
+    /// The first of refusals 15 and 9 to 12 that applies. Only kind 17 knows 15, and it has no depth
+    /// for 8 and 14, which are tested in between.
     pub fn refusal(&self, record: &Record) -> Option<u32> {
         match record {
+            Record::Counting(_) => (!self.rules.is_empty()).then_some(15),
             Record::Rule(rule) if self.rules.contains(rule) => Some(9),
             Record::Rule(_) => (self.rules.len() >= MAX_RULES).then_some(11),
             Record::Put(mark) => self.put_refusal(mark),
@@ -45,11 +48,13 @@ impl Held {
             Record::Rule(rule) => self.rules.push(*rule),
             Record::Put(mark) => self.marks.push(*mark),
             Record::Take(mark) => self.marks.retain(|held| held != mark),
+            Record::Counting(value) => self.counting = Counting::named(*value).expect("1 or 2"),
             Record::Query(..) | Record::Spans { .. } => {}
         }
     }
 
-    /// Whether records can lead to these lists: ranges, limits and no double.
+    /// Whether records can lead to these lists: ranges, limits and no double. The counting is set
+    /// before the rules, so either goes with any lists.
     pub fn reachable(&self) -> bool {
         let rules: HashSet<_> = self.rules.iter().collect();
         let marks: HashSet<_> = self.marks.iter().collect();

@@ -1,7 +1,8 @@
 //! What the program prints for an input.
 
+use crate::frame::bytes;
 use crate::service::{record, Lent, Memory};
-use crate::terms::Answer;
+use crate::terms::{Answer, Record};
 
 pub const MAX_INPUT: usize = 65_536;
 
@@ -31,6 +32,11 @@ pub fn answers(input: &[u8]) -> Vec<String> {
     let lines = listing(input);
     let bare = lines.lines().map(|line| line.split_once(' '));
     bare.flatten().map(|(_, said)| said.to_string()).collect()
+}
+
+/// The same for records, with marks by the old kinds where both ends are equal.
+pub fn answers_to(records: &[Record]) -> Vec<String> {
+    answers(&records.iter().flat_map(bytes).collect::<Vec<u8>>())
 }
 
 fn span_text(memory: &Memory, answer: Answer) -> String {

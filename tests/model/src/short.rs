@@ -64,6 +64,11 @@ pub fn spans(item: u8, label: u8) -> Record {
     Record::Spans { item, label }
 }
 
+/// The counting by its number, which need not be one.
+pub fn counting(value: u8) -> Record {
+    Record::Counting(value)
+}
+
 /// Its last record puts a mark again.
 pub fn worked_example() -> [Record; 11] {
     [

@@ -1,4 +1,4 @@
-//! Names, limits, operators, rules, marks, records and answers of the specification.
+//! Names, limits, operators, countings, rules, marks, records and answers of the specification.
 //! The types hold any field value; `Record::refusal` says which of them are in range.
 
 pub const ITEMS: u8 = 16;
@@ -13,10 +13,11 @@ pub const MAX_N: u32 = 300_000;
 pub const SHALLOWEST: i32 = -10_000;
 pub const DEEPEST: i32 = 200_000;
 
-/// The refusal numbers in the order in which they are tested: 14 stands directly after 8.
-pub const REFUSALS: [u32; 13] = [1, 2, 3, 4, 5, 6, 7, 8, 14, 9, 10, 11, 12];
+/// The refusal numbers in the order in which they are tested: 15 stands directly after 7, and 14
+/// directly after 8.
+pub const REFUSALS: [u32; 14] = [1, 2, 3, 4, 5, 6, 7, 15, 8, 14, 9, 10, 11, 12];
 /// As many places as an array by refusal number needs.
-pub const REFUSAL_PLACES: usize = 15;
+pub const REFUSAL_PLACES: usize = 16;
 
 /// All ordered pairs of items.
 pub fn pairs() -> impl Iterator<Item = (u8, u8)> {
@@ -41,6 +42,35 @@ impl Operator {
             WITHIN => (1..=MAX_N).contains(&self.n),
             BETWEEN..=ANYWHERE => self.n == 0,
             _ => false,
+        }
+    }
+}
+
+/// How WITHIN n counts the distance from j to k.
+#[derive(Clone, Copy, Debug, Default, PartialEq, Eq)]
+pub enum Counting {
+    /// Last year's rule lists: k - j < n.
+    #[default]
+    Old,
+    /// This year's: k - j <= n.
+    New,
+}
+
+impl Counting {
+    /// The counting that a record of kind 17 names, if there is one of that number.
+    pub fn named(value: u8) -> Option<Counting> {
+        match value {
+            1 => Some(Counting::Old),
+            2 => Some(Counting::New),
+            _ => None,
+        }
+    }
+
+    /// What a distance has to stay under. Distances are whole numbers, so up to n is under n + 1.
+    pub fn bound(self, n: u32) -> i64 {
+        match self {
+            Counting::Old => i64::from(n),
+            Counting::New => i64::from(n) + 1,
         }
     }
 }
@@ -96,6 +126,7 @@ pub enum Record {
     Take(Mark),
     Query(Fact, i64),
     Spans { item: u8, label: u8 },
+    Counting(u8),
 }
 
 impl Record {
@@ -103,7 +134,7 @@ impl Record {
     pub fn refusal(&self) -> Option<u32> {
         let cases = [
             (6, self.names()),
-            (7, self.operator()),
+            (7, self.codes()),
             (8, self.depths()),
             (14, self.upright()),
         ];
@@ -113,7 +144,7 @@ impl Record {
 
     fn names(&self) -> bool {
         match *self {
-            Record::Reset => true,
+            Record::Reset | Record::Counting(_) => true,
             Record::Rule(rule) => rule_names(rule),
             Record::Put(mark) | Record::Take(mark) => fact_names(mark.fact, 1, NEVER - 1),
             Record::Query(fact, _) => fact_names(fact, EVERY, NEVER),
@@ -121,9 +152,11 @@ impl Record {
         }
     }
 
-    fn operator(&self) -> bool {
+    /// An operator's code and n, or the counting.
+    fn codes(&self) -> bool {
         match self {
             Record::Rule(Rule::Label { op, .. } | Rule::LinkRule { op, .. }) => op.in_range(),
+            Record::Counting(value) => Counting::named(*value).is_some(),
             _ => true,
         }
     }

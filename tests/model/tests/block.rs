@@ -1,6 +1,6 @@
 //! Lent memory: the block's encoding, lists at their limits, and the order of refusals.
 
-use model::block::{decode, encode, MARKS_AT, MARK_PLACE, RULES_AT, SIZE};
+use model::block::{decode, encode, COUNTING_AT, MARKS_AT, MARK_PLACE, RULES_AT, SIZE};
 use model::frame::{bytes, framed};
 use model::held::Held;
 use model::service::{record, spans_of, Lent, Memory};
@@ -15,8 +15,8 @@ fn mark(label: u8, depth: i32) -> Mark {
 /// The marks alone, without rules.
 fn marked(marks: impl IntoIterator<Item = Mark>) -> Held {
     Held {
-        rules: vec![],
         marks: marks.into_iter().collect(),
+        ..Held::default()
     }
 }
 
@@ -31,6 +31,7 @@ fn full() -> Held {
     Held {
         rules: (0..128).map(rule).collect(),
         marks: marks.collect(),
+        ..Held::default()
     }
 }
 
@@ -98,6 +99,26 @@ fn places_of_the_block() {
     assert_eq!(decode(&block), Some(held));
 }
 
+/// Byte 4 is 0 or 1, whatever else is held, and its two values are different states.
+#[test]
+fn the_counting_in_the_block() {
+    for held in [Held::default(), full()] {
+        let with = |value| {
+            let mut block = encode(&held);
+            block[4] = value;
+            decode(&block)
+        };
+        let renewed = Held {
+            counting: Counting::New,
+            ..held.clone()
+        };
+        assert_eq!(encode(&renewed)[4], 1);
+        assert_eq!(with(0), Some(held.clone()));
+        assert_eq!(with(1), Some(renewed));
+        assert!((2..=255).all(|value| with(value).is_none()));
+    }
+}
+
 /// A byte of the second of two stretches that no record leads to.
 #[test]
 fn bad_bytes_of_a_place_are_seen() {
@@ -131,7 +152,7 @@ fn stray_bytes_are_seen() {
     held.rules.pop();
     held.marks.pop();
     let stray = [
-        4,
+        COUNTING_AT + 1,
         31,
         RULES_AT + 7,
         MARKS_AT - 1,
@@ -151,7 +172,7 @@ fn stray_bytes_are_seen() {
 fn unreachable_lists_are_seen() {
     let double = Held {
         rules: vec![rule(0), rule(0)],
-        marks: vec![],
+        ..Held::default()
     };
     let lists = [
         double,
@@ -190,7 +211,7 @@ fn lowest_number_first() {
 #[test]
 fn a_reset_cannot_repair_a_block() {
     let mut memory = memory_of(&full());
-    memory.block[4] = 1;
+    memory.block[COUNTING_AT] = 2;
     let before = memory.clone();
     let reset = bytes(&Record::Reset);
     assert_eq!(

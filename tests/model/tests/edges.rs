@@ -2,17 +2,14 @@
 
 use model::depths::Depths;
 use model::frame::bytes;
-use model::listing::{self, listing, MAX_INPUT};
+use model::listing::{answers_to as answers, listing, MAX_INPUT};
 use model::short::*;
+use model::terms::Counting::{New, Old};
 use model::terms::*;
 
 fn set(depths: &[i64]) -> Depths {
     let single = depths.iter().map(|&depth| Depths::one(depth));
     single.fold(Depths::default(), |all, one| all.union(&one))
-}
-
-fn answers(records: &[Record]) -> Vec<String> {
-    listing::answers(&records.iter().flat_map(bytes).collect::<Vec<u8>>())
 }
 
 fn last(records: &[Record]) -> String {
@@ -30,25 +27,38 @@ fn worked_example_listing() {
 #[test]
 fn operators_on_one_set() {
     let m = set(&[-3, -2, 0, 4]);
-    assert_eq!(m.under(within(3)), set(&[-3, -2, -1, 0, 4]));
-    assert_eq!(m.under(within(1)), m);
-    assert_eq!(m.under(whole(BETWEEN)), Depths::run(-3, 4));
-    assert_eq!(m.under(whole(ABOVE)).runs(), [(i64::MIN, 4)]);
-    assert_eq!(m.under(whole(BELOW)).runs(), [(-3, i64::MAX)]);
-    assert_eq!(m.under(whole(ANYWHERE)), Depths::all());
+    let upper = set(&[-3, -2, -1, 0, 4]);
+    assert_eq!(m.under(within(3), Old), upper);
+    assert_eq!(m.under(within(2), Old), m);
+    assert_eq!(m.under(within(2), New), upper);
+    for counting in [Old, New] {
+        assert_eq!(m.under(within(1), counting), m);
+        assert_eq!(m.under(whole(BETWEEN), counting), Depths::run(-3, 4));
+        assert_eq!(m.under(whole(ABOVE), counting).runs(), [(i64::MIN, 4)]);
+        assert_eq!(m.under(whole(BELOW), counting).runs(), [(-3, i64::MAX)]);
+        assert_eq!(m.under(whole(ANYWHERE), counting), Depths::all());
+    }
 }
 
 #[test]
 fn nothing_gives_nothing() {
-    let given = (WITHIN..=ANYWHERE).map(|code| Depths::default().under(Operator { code, n: 5 }));
-    assert!(given.into_iter().all(|depths| depths.is_empty()));
+    let given = |code| [Old, New].map(|by| Depths::default().under(Operator { code, n: 5 }, by));
+    let mut all = (WITHIN..=ANYWHERE).flat_map(given);
+    assert!(all.all(|depths| depths.is_empty()));
 }
 
 #[test]
 fn distance_is_less_than_n() {
     let m = set(&[104, 123]);
-    assert_eq!(m.under(within(20)), Depths::run(104, 123));
-    assert_eq!(m.under(within(19)), m);
+    assert_eq!(m.under(within(20), Old), Depths::run(104, 123));
+    assert_eq!(m.under(within(19), Old), m);
+}
+
+#[test]
+fn distance_is_at_most_n_by_the_new_counting() {
+    let m = set(&[104, 123]);
+    assert_eq!(m.under(within(19), New), Depths::run(104, 123));
+    assert_eq!(m.under(within(18), New), m);
 }
 
 #[test]

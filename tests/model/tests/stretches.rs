@@ -2,14 +2,9 @@
 //! refusals.
 
 use model::frame::{bytes, framed, wide_bytes};
-use model::listing;
+use model::listing::{self, answers_to as answers};
 use model::short::*;
 use model::terms::*;
-
-/// The answers, with marks by the old kinds where both ends are equal.
-fn answers(records: &[Record]) -> Vec<String> {
-    listing::answers(&records.iter().flat_map(bytes).collect::<Vec<u8>>())
-}
 
 /// The answers, with every mark by the kinds 13 to 16.
 fn wide_answers(records: &[Record]) -> Vec<String> {
@@ -255,7 +250,6 @@ fn lengths_and_kinds() {
     assert_eq!(said(14, 11), ["done"]);
     assert_eq!(said(15, 10), ["refused 6"]);
     assert_eq!(said(16, 11), ["refused 10"]);
-    assert_eq!(said(17, 1), ["refused 4"]);
     assert_eq!(said(0x010d, 10), ["refused 4"]);
 }
 

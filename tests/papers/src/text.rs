@@ -1,6 +1,7 @@
 //! Streams as text: one record on a line, ` => ` and the answer that it must get.
 //! `name WORD NUMBER` gives an item, label or link kind a name; `#` starts a comment.
-//! A mark at one depth is put and taken by the kinds 6 to 9, `from TOP to BOTTOM` by 13 to 16.
+//! A mark at one depth is put and taken by the kinds 6 to 9, `from TOP to BOTTOM` by 13 to 16;
+//! `counting NUMBER` is kind 17.
 
 use model::frame::{bytes, wide_bytes};
 use model::short::*;
@@ -97,6 +98,7 @@ impl Line<'_> {
             "query" => query(self.label()?, self.number()?),
             "querylink" => query(self.link()?, self.number()?),
             "spans" => spans(self.small()?, self.small()?),
+            "counting" => counting(self.small()?),
             other => return Err(format!("{other} is no record")),
         })
     }

@@ -1,7 +1,7 @@
 //! The specification's cases at the edges, as steps of one script.
 
 use crate::script::{Part, Script, WHOLE};
-use model::block::{MARKS_AT, MARK_PLACE, RULES_AT, SIZE};
+use model::block::{COUNTING_AT, MARKS_AT, MARK_PLACE, RULES_AT, SIZE};
 use model::frame::{bytes, framed};
 use model::service::Lent;
 use model::short::*;
@@ -20,6 +20,12 @@ pub fn patterns(script: &mut Script) {
     [(SIZE, 1), (SIZE + 1, 2), (4_500, 3), (5_119, 4)]
         .into_iter()
         .for_each(|(place, value)| script.poke(place, value));
+}
+
+/// The empty state again, and no byte left.
+pub fn the_end(script: &mut Script) {
+    script.send(&Record::Reset);
+    script.call(&WHOLE, &[]);
 }
 
 pub fn example(script: &mut Script) {
@@ -126,7 +132,7 @@ const BAD: [(usize, u8); 19] = [
     (1, 1),
     (2, 1),
     (3, 2),
-    (4, 1),
+    (COUNTING_AT, 2),
     (31, 255),
     (RULES_AT, 6),
     (RULES_AT + 3, 0),
@@ -154,7 +160,7 @@ pub fn bad_blocks(script: &mut Script) {
     refill(script);
     BAD.into_iter()
         .for_each(|(place, value)| script.spoiled(place, value, &ask));
-    script.spoiled(4, 1, &Record::Reset);
+    script.spoiled(COUNTING_AT, 2, &Record::Reset);
     script.spoiled(SIZE, 255, &ask);
     // A changed label is another block that records lead to.
     script.spoiled(MARKS_AT + 2, 9, &spans(1, 9));

@@ -1,10 +1,11 @@
 //! Writes the test program's script (`stdin`) and what it has to print (`stdout`) into a folder.
 
 mod cases;
+mod countings;
 mod script;
 mod stretches;
 
-use model::terms::{Record, REFUSALS};
+use model::terms::REFUSALS;
 use script::Script;
 use std::path::PathBuf;
 
@@ -35,10 +36,18 @@ fn build() -> Script {
         stretches::bad_blocks,
         stretches::all_ends,
         stretches::full_list,
+        cases::the_end,
+        countings::setting,
+        countings::refused,
+        countings::operators,
+        countings::widest_gap,
+        countings::links,
+        countings::contradiction,
+        countings::byte_of_the_block,
+        countings::poked_counting,
+        cases::the_end,
     ];
     cases.into_iter().for_each(|case| case(&mut script));
-    script.send(&Record::Reset);
-    script.call(&script::WHOLE, &[]);
     script
 }
 

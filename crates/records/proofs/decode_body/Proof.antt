@@ -124,6 +124,12 @@ link-stretch-requires-2 c κs =
 take-requires-4 : tie.Need-take-requires-4
 take-requires-4 c κs = search needs
 
+count-requires : tie.Need-count-requires
+unfolding lengthsOf
+count-requires c κs =
+    let start = c .before .before in
+    omega (arith, sized (length (start .args .body .now)) (start .args .kind) 3 (start .pre) (ap lengthsOf (c .match .keys17)))
+
 returns : tie.Need-returns
 unfolding bodyTests commandIn
 returns c = simp (c .match .keys1)
@@ -205,10 +211,15 @@ returns-16 c =
     simp (match .match .keys16) (c .take4 .ensures ∙ ap (asTake (match .before .before .args .settings)) (c .before .link-stretch2 .ensures))
 
 returns-17 : tie.Need-returns-17
+unfolding bodyTests commandIn
+returns-17 c = simp (c .before .match .keys17) (c .count .ensures)
+
+returns-18 : tie.Need-returns-18
 unfolding lengthsOf
-returns-17 c =
+returns-18 c =
     let m = c .match .rest in
     absurd (simp (
+      ne-eqb _ _ (m .0 .0 .0 .0 .0 .0 .0 .0 .0 .0 .0 .0 .0 .0 .0 .0 .1),
       ne-eqb _ _ (m .0 .0 .0 .0 .0 .0 .0 .0 .0 .0 .0 .0 .0 .0 .0 .1),
       ne-eqb _ _ (m .0 .0 .0 .0 .0 .0 .0 .0 .0 .0 .0 .0 .0 .0 .1),
       ne-eqb _ _ (m .0 .0 .0 .0 .0 .0 .0 .0 .0 .0 .0 .0 .0 .1),
@@ -254,6 +265,7 @@ decode-body-spec =
     take-requires-3
     link-stretch-requires-2
     take-requires-4
+    count-requires
     returns
     returns-2
     returns-3
@@ -270,4 +282,5 @@ decode-body-spec =
     returns-14
     returns-15
     returns-16
-    returns-17)
+    returns-17
+    returns-18)

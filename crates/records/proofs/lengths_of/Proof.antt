@@ -70,9 +70,14 @@ returns-16 c = simp (c .match .keys16)
 
 returns-17 : tie.Need-returns-17
 unfolding lengthsOf
-returns-17 c =
+returns-17 c = simp (c .match .keys17)
+
+returns-18 : tie.Need-returns-18
+unfolding lengthsOf
+returns-18 c =
     let m = c .match .rest in
     simp (
+      ne-eqb _ _ (m .0 .0 .0 .0 .0 .0 .0 .0 .0 .0 .0 .0 .0 .0 .0 .0 .1),
       ne-eqb _ _ (m .0 .0 .0 .0 .0 .0 .0 .0 .0 .0 .0 .0 .0 .0 .0 .1),
       ne-eqb _ _ (m .0 .0 .0 .0 .0 .0 .0 .0 .0 .0 .0 .0 .0 .0 .1),
       ne-eqb _ _ (m .0 .0 .0 .0 .0 .0 .0 .0 .0 .0 .0 .0 .0 .1),
@@ -111,4 +116,5 @@ lengths-of-spec =
     returns-14
     returns-15
     returns-16
-    returns-17)
+    returns-17
+    returns-18)

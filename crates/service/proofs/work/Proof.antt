@@ -67,6 +67,15 @@ keep-requires-3 c κs = search needs
 enum-known-command-4 : tie.Need-enum-known-command-4
 enum-known-command-4 c = search needs
 
+count-requires : tie.Need-count-requires
+count-requires c κs = search needs
+
+keep-requires-4 : tie.Need-keep-requires-4
+keep-requires-4 c κs = search needs
+
+enum-known-command-5 : tie.Need-enum-known-command-5
+enum-known-command-5 c = search needs
+
 answer-requires : tie.Need-answer-requires
 answer-requires c κs =
     let start = c .before .before .before .before .before .before .before .before .before .before in
@@ -76,7 +85,7 @@ answer-requires c κs =
       labels-long = room .labels;
       links-long = room .links;
       spans-long = room .spans;
-      named = subst (λ (x : Command). T (Proper x)) (c .before .before .before .before .command4 .given .1) (start .pre .1);
+      named = subst (λ (x : Command). T (Proper x)) (c .before .before .before .before .command5 .given .1) (start .pre .1);
     }
 
 same-length : tie.Need-same-length
@@ -134,19 +143,32 @@ returns-4 c =
 same-length-5 : tie.Need-same-length-5
 same-length-5 c = search needs
 
+returns-5 : tie.Need-returns-5
+returns-5 c =
+    let command4 = c .before .before .before .before .before .before in
+    let start = command4 .before .before .before .before .before .before in
+    as-command (start .args .block .now) (start .args .labels .now) (start .args .links .now) (start .args .spans .now)
+    (heldOf (start .args .state)) (start .args .body .now) (start .args .used) (start .args .command) _ (command4 .command4 .given .1)
+    (changed (start .args .block .now) (start .args .labels .now) (start .args .links .now) (start .args .spans .now)
+    (heldOf (start .args .state)) _ _ (start .args .used) _ _ _ (c .before .before .before .count .ensures)
+    (c .before .before .keep4 .ensures))
+
 same-length-6 : tie.Need-same-length-6
 same-length-6 c = search needs
 
 same-length-7 : tie.Need-same-length-7
 same-length-7 c = search needs
 
-returns-5 : tie.Need-returns-5
-returns-5 c =
+same-length-8 : tie.Need-same-length-8
+same-length-8 c = search needs
+
+returns-6 : tie.Need-returns-6
+returns-6 c =
     let answer = c .before .before .before .before .before in
-    let command4 = answer .before .before .before .before .before in
-    let start = command4 .before .before .before .before .before .before in
+    let command5 = answer .before .before .before .before .before in
+    let start = command5 .before .before .before .before .before .before in
     as-command (start .args .block .now) (start .args .labels .now) (start .args .links .now) (start .args .spans .now)
-    (heldOf (start .args .state)) (start .args .body .now) (start .args .used) (start .args .command) _ (command4 .command4 .given .1)
+    (heldOf (start .args .state)) (start .args .body .now) (start .args .used) (start .args .command) _ (command5 .command5 .given .1)
     (questioned (start .args .block .now) (start .args .labels .now) (start .args .links .now) (start .args .spans .now)
     (heldOf (start .args .state)) _ (start .args .used) _ _ _ _ (answer .answer .ensures))
 
@@ -168,6 +190,9 @@ work-spec =
     take-requires
     keep-requires-3
     enum-known-command-4
+    count-requires
+    keep-requires-4
+    enum-known-command-5
     answer-requires
     same-length
     returns
@@ -178,6 +203,8 @@ work-spec =
     same-length-4
     returns-4
     same-length-5
+    returns-5
     same-length-6
     same-length-7
-    returns-5)
+    same-length-8
+    returns-6)
