@@ -9,7 +9,8 @@ ghost use Rattle.terms.specs.Held.{isNamed};
 ghost use Rattle.terms.specs.Refusals.{test, tested as testedBy};
 ghost use Rattle.terms.specs.Otherwise.{orElse};
 ghost use Rattle.records.specs.declared.Command.the-variants as To;
-ghost use Rattle.records.specs.Records.{markTests, asRule, asOperatorRule, asPut, asTake, asCounting, asQuestion, kindTests, decodedAs, decodeBody, framed};
+ghost use Rattle.records.specs.Records.{markTests, asRule, asOperatorRule, asPut, asTake, asCounting, asQuestion, kindTests};
+ghost use Rattle.records.specs.Records.{decodedAs, decodeBody, framed};
 ghost use Rattle.records.specs.Formats.{
   operatorAt,
   labelRule,
