@@ -195,7 +195,7 @@ impl State {
         }
     }
 
-    // The counting set, where no rule is held that was written for another.
+    // The counting set, where no rule is held: rules are written for one.
     pub fn count(self, counting: Counting) -> Listed
         requires { ⌜ Counts-in self ⌝ }
         ensures { λ r. ⌜ Listed-as (countTests (heldOf self)) (heldOf self) (withCounting (heldOf self) counting) r ⌝ }
