@@ -1,7 +1,7 @@
 /*
  * A host program: lends its memory to the library, feeds it a small section record by record and prints what it says.
  * The section is the worked example of the specification, then a question beside the records, calls with null pointers
- * where the length is 0, a mark with top and bottom, and at last a rule list by the new counting.
+ * where the length is 0, a mark with top and bottom, a rule list by the new counting, and at last a hole with two ends.
  */
 #include <harmikse.h>
 
@@ -15,7 +15,7 @@ static uint8_t links[HARMIKSE_LINK_BYTES];
 static int32_t spans[HARMIKSE_SPAN_NUMBERS];
 
 /* The records, as they come over the line. */
-static uint8_t stream[256];
+static uint8_t stream[512];
 static size_t stream_len;
 
 static void put_number(uint64_t number, int bytes)
@@ -41,6 +41,24 @@ static void set_counting(uint8_t counting)
 {
     begin(17, 1);
     put_number(counting, 1);
+}
+
+/* The depths that exist, from top to bottom. */
+static void give_hole(int32_t top, int32_t bottom)
+{
+    begin(18, 8);
+    put_number((uint32_t)top, 4);
+    put_number((uint32_t)bottom, 4);
+}
+
+/* The operators without a distance: 2 is BETWEEN, 3 ABOVE, 4 BELOW and 5 ANYWHERE. */
+static void add_operator(uint8_t code, uint8_t from, uint8_t to)
+{
+    begin(2, 7);
+    put_number(code, 1);
+    put_number(0, 4);
+    put_number(from, 1);
+    put_number(to, 1);
 }
 
 static void add_within(uint32_t n, uint8_t from, uint8_t to)
@@ -175,6 +193,23 @@ static void write_counting(void)
     ask_spans(0, 2);
 }
 
+/*
+ * In a hole from -500 to 3,000 ANYWHERE ends with the hole, and a mark below it is refused. A hole can't be given while
+ * marks are held, so the first record is refused.
+ */
+static void write_hole(void)
+{
+    give_hole(-500, 3000);
+    reset();
+    give_hole(-500, 3000);
+    add_operator(5, 1, 2);
+    put_label(0, 1, 100);
+    ask_spans(0, 2);
+    query_label(0, 2, 3000);
+    query_label(0, 2, 3001);
+    put_label(0, 1, 3001);
+}
+
 /* Hands over what is left of the stream, record by record; fails where a record is not used. */
 static int feed(void)
 {
@@ -209,5 +244,8 @@ int main(void)
     if (feed() != 0)
         return 1;
     write_counting();
+    if (feed() != 0)
+        return 1;
+    write_hole();
     return feed();
 }

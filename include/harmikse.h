@@ -4,9 +4,9 @@
  * The caller lends four pieces of memory and the bytes of a record; the library holds nothing between calls, allocates
  * nothing and has no global state. It needs memcpy and memset, and nothing else of the C library.
  *
- *   block   the state: every rule and mark accepted since the last RESET and not taken since, and the counting. All
- *           zeros is the empty state. Keep it from call to call and write it with nothing else: a block that no run of
- *           records leads to is refused with 2.
+ *   block   the state: every rule and mark accepted since the last RESET and not taken since, the counting and the
+ *           hole. All zeros is the empty state. Keep it from call to call and write it with nothing else: a block that
+ *           no run of records leads to is refused with 2.
  *   labels  the label table, 64-bit numbers: entry item * 193 + piece, bit = label.
  *   links   the link table, bytes: entry (from * 16 + to) * 193 + piece, bit = link kind.
  *   spans   the span buffer: pairs of top and bottom, in centimetres.
@@ -34,6 +34,14 @@
  * rules: while a rule is held it is refused with 15, whichever counting it names. The empty state has the old counting,
  * and RESET goes back to it.
  *
+ * Hole: kind 18 gives the hole's top and bottom, 4 bytes signed each, from -10,000 to 200,000 cm; its length is 10.
+ * From then on only the depths from one to the other exist, both included: EVERY holds there alone, each operator gives
+ * depths of the hole alone, and a question outside is answered no, or contradiction, which goes first. The pieces are
+ * those of the hole: the first begins at its top, the last ends at its bottom. The hole's ends are no marked depths. A
+ * mark to put that reaches outside is refused with 16. Send kind 18 before the marks: while a mark is held it is
+ * refused with 17, whichever hole it gives; rules don't matter. A later hole replaces the one before, and it stays when
+ * the last mark is taken. The empty state has no hole, and RESET goes back to that.
+ *
  * Stack: leave 176 KiB for a call (HARMIKSE_STACK_BYTES).
  *
  * Refusals leave all lent memory unchanged. After a question (yes, no, contradiction, spans) both tables show what the
@@ -59,7 +67,7 @@ extern "C" {
 #define HARMIKSE_PIECES 193
 #define HARMIKSE_MOST_SPANS 97
 
-/* In a pair: no end on that side. */
+/* In a pair: no end on that side. Where there is a hole, every span has both ends. */
 #define HARMIKSE_NO_TOP INT32_MIN
 #define HARMIKSE_NO_BOTTOM INT32_MAX
 
@@ -80,7 +88,7 @@ enum harmikse_answer {
     HARMIKSE_REFUSED = 6        /* value: one of the numbers below */
 };
 
-/* Where several apply, the first in the order 1 to 7, 15, 8, 14, 9 to 12 is given; end stands between 2 and 3. */
+/* Where several apply, the first in the order 1 to 7, 15, 8, 14, 16, 17, 9 to 12 is given; end is between 2 and 3. */
 enum harmikse_refusal {
     HARMIKSE_SHORT_MEMORY = 1,   /* block, a table or span buffer too short */
     HARMIKSE_BAD_BLOCK = 2,      /* a block that no run of records from all zeros leads to */
@@ -89,13 +97,15 @@ enum harmikse_refusal {
     HARMIKSE_WRONG_LENGTH = 5,   /* length not that of the kind */
     HARMIKSE_BAD_NAME = 6,       /* an item, label or link kind out of range */
     HARMIKSE_BAD_OPERATOR = 7,   /* code or n out of range, or a counting other than 1 and 2 */
-    HARMIKSE_BAD_DEPTH = 8,      /* a mark's depth, top or bottom out of range */
+    HARMIKSE_BAD_DEPTH = 8,      /* a mark's depth, top or bottom, or an end of a hole, out of range */
     HARMIKSE_ALREADY_HELD = 9,   /* a rule, or a mark to put */
     HARMIKSE_NOT_HELD = 10,      /* a mark to take */
     HARMIKSE_LIST_FULL = 11,     /* 128 rules or 256 marks */
     HARMIKSE_DEPTHS_FULL = 12,   /* a mark with which tops and bottoms would be at more than 96 depths */
-    HARMIKSE_BAD_STRETCH = 14,   /* a mark's top deeper than its bottom; tested after 8 and before 9 */
-    HARMIKSE_RULES_HELD = 15     /* kind 17 while a rule is held; tested after 7 and before 8 */
+    HARMIKSE_BAD_STRETCH = 14,   /* a mark's or a hole's top deeper than its bottom; tested after 8 and before 16 */
+    HARMIKSE_RULES_HELD = 15,    /* kind 17 while a rule is held; tested after 7 and before 8 */
+    HARMIKSE_OUTSIDE_HOLE = 16,  /* a mark to put that reaches outside the hole; tested after 14 and before 17 */
+    HARMIKSE_MARKS_HELD = 17     /* kind 18 while a mark is held; tested after 16 and before 9 */
 };
 
 /*

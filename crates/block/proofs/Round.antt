@@ -6,7 +6,8 @@ use Prim.Native.Nat.{ℕ, zero, suc, _+_, _-_, _*_, _^_, _≤_, _<_}
 use native.Mathlib.Nat.{not-suc-le-zero, le-of-suc-le-suc}
 use native.Mathlib.Omega.{arith}
 use lib.Dec.{T, lit<}
-use lib.IntN.{ℤ}
+use lib.IntN.{ℤ, pos}
+use lib.Signed.{leZ}
 use lib.ListN.{length, getD, take, length-append, List·getD-append}
 use lib.Seq.{getD-append-add, take-at}
 use mir.Syntax.{w32}
@@ -16,6 +17,8 @@ use Rattle.codec.specs.Bytes.{little, bytes}
 use Rattle.codec.proofs.Laws.{little-same, little-bytes, length-bytes}
 use Rattle.terms.specs.declared.Counting.{Counting}
 use Rattle.terms.specs.declared.Counting.the-variants.{Old, New}
+use Rattle.terms.specs.declared.Hole.{Hole}
+use Rattle.terms.specs.declared.Hole.the-variants.{Whole, Part}
 use Rattle.terms.specs.declared.Operator.{Operator}
 use Rattle.terms.specs.declared.Rule.{Rule}
 use Rattle.terms.specs.declared.Rule.the-variants.{Label, Both, Link, Via}
@@ -24,7 +27,8 @@ use Rattle.terms.specs.declared.Atom.the-variants.{Has, Linked}
 use Rattle.terms.specs.declared.Mark.{Mark}
 use Rattle.terms.specs.Tests.{and-both, true-of}
 use Rattle.terms.specs.declared.Settings.{Settings}
-use Rattle.terms.specs.Limits.{RULES, MARKS}
+use Rattle.terms.specs.Limits.{RULES, MARKS, isDepth}
+use Rattle.terms.specs.Holes.{isHole}
 use Rattle.terms.specs.Operators.{operatorOf, codeOf, distanceOf, isOperator, orIdentity}
 use Rattle.terms.specs.Readings.{operator-read, distance-fits, depth-fits}
 use Rattle.terms.specs.Held.{Held, freshSettings, isNamed, isRule, isMark, emptyHeld}
@@ -34,10 +38,11 @@ use Rattle.terms.specs.Lists.{every, limits}
 use Rattle.terms.specs.Limited.{Limited, limited}
 use Rattle.block.specs.Layout.{
   countingByte,
+  holeBytes,
   settingsBytes,
   placeBytes,
   ruleBytes,
-  markBytesOf,
+  endsBytes,
   atomBytes,
   markBytes,
   cat,
@@ -53,6 +58,7 @@ use Rattle.block.specs.Layout.{
 }
 use Rattle.block.specs.Block.{
   countingFrom,
+  holeFrom,
   settingsAt,
   ruleOf,
   ruleRead,
@@ -67,7 +73,7 @@ use Rattle.block.specs.Block.{
   decode,
 }
 use Rattle.block.proofs.Tab.{tab-is, cat-get, length-cat}
-use Rattle.block.proofs.Sizes.{settings-size, rule-size, mark-size, length-padded}
+use Rattle.block.proofs.Sizes.{settings-length, settings-size, rule-size, mark-size, length-padded}
 use Rattle.block.proofs.Pack.{zeros-add}
 use Rattle.block.proofs.Equal.{sameBytes-refl, sameBytes-true}
 
@@ -91,7 +97,7 @@ unfolding bytes zeros
 no-count = refl
 
 fresh-zero : padded (HEADER - SETTINGS-AT) (settingsBytes freshSettings) ≡ zeros (HEADER - SETTINGS-AT)
-unfolding settingsBytes zeros
+unfolding settingsBytes endsBytes bytes zeros
 fresh-zero = refl
 
 counting-back : (c : Counting) → countingFrom (countingByte c) ≡ c
@@ -147,11 +153,11 @@ rule-place s at k a b c n f h =
     rw (kind, h .same 1 (lit< tt), h .same 2 (lit< tt), h .same 3 (lit< tt), number)
 
 mark-place :
-    (s : List ℕ) (at k a b c : ℕ) (t d : ℤ) → SFits w32 t → SFits w32 d → Stands MARK-BYTES s at (markBytesOf k a b c t d) →
+    (s : List ℕ) (at k a b c : ℕ) (t d : ℤ) → SFits w32 t → SFits w32 d → Stands MARK-BYTES s at (endsBytes k a b c t d) →
     markRead s at ≡ markOf k a b c t d
-unfolding markBytesOf bytes
+unfolding endsBytes bytes
 mark-place s at k a b c t d f g h =
-    let v : List ℕ = markBytesOf k a b c t d in
+    let v : List ℕ = endsBytes k a b c t d in
     let x : ℕ = ofZ w32 t in
     let y : ℕ = ofZ w32 d in
     let kind = first-back MARK-BYTES s at v h (lit< tt) in
@@ -180,6 +186,31 @@ atom-back s at (Linked a r b) t d f g h = mark-place s at 7 a r b t d f g h
 mark-back : (s : List ℕ) (at : ℕ) (m : Mark) → T (isMark m) → Stands MARK-BYTES s at (markBytes m) → markRead s at ≡ m
 mark-back s at m t h =
     atom-back s at (m .atom) (m .top) (m .bottom) (depth-fits (m .top) (top-placed m t)) (depth-fits (m .bottom) (bottom-placed m t)) h
+
+-- the settings in their bytes
+settings-place :
+    (s : List ℕ) (k f : ℕ) (t d : ℤ) → SFits w32 t → SFits w32 d → Stands MARK-BYTES s SETTINGS-AT (endsBytes k 0 f 0 t d) →
+    settingsAt s ≡ record { counting = countingFrom k; hole = holeFrom f t d }
+unfolding endsBytes bytes
+settings-place s k f t d F G h =
+    let v : List ℕ = endsBytes k 0 f 0 t d in
+    let x : ℕ = ofZ w32 t in
+    let y : ℕ = ofZ w32 d in
+    let counting = first-back MARK-BYTES s SETTINGS-AT v h (lit< tt) in
+    let top = number-back MARK-BYTES s SETTINGS-AT v h 4 4 (omega arith) ∙ count-back 4 x 4 (k ∷ 0 ∷ f ∷ 0 ∷ []) (bytes 4 y) refl (ofZ-fits w32 t F .fits) in
+    let bottom = number-back MARK-BYTES s SETTINGS-AT v h 4 8 (omega arith) ∙ count-back 4 y 8 (k ∷ 0 ∷ f ∷ 0 ∷ bytes 4 x) [] refl (ofZ-fits w32 d G .fits) in
+    rw (counting, h .same 2 (lit< tt), top, bottom, toZ-ofZ w32 t F, toZ-ofZ w32 d G)
+
+set-back :
+    (s : List ℕ) (c : Counting) (H : Hole) → T (isHole H) → Stands MARK-BYTES s SETTINGS-AT (holeBytes (countingByte c) H) →
+    settingsAt s ≡ record { counting = c; hole = H }
+set-back s c Whole g h =
+    settings-place s (countingByte c) 0 (pos 0) (pos 0) (record { sfits = omega arith }) (record { sfits = omega arith }) h
+    ∙ ap (λ (x : Counting). record { counting = x; hole = Whole }) (counting-back c)
+set-back s c (Part t d) g h =
+    let w = and-both (isDepth t) (isDepth d) (and-both (isDepth t && isDepth d) (leZ t d) g .0) in
+    settings-place s (countingByte c) 1 t d (depth-fits t (w .0)) (depth-fits d (w .1)) h
+    ∙ ap (λ (x : Counting). record { counting = x; hole = Part t d }) (counting-back c)
 
 -- ---- the whole block
 
@@ -278,13 +309,12 @@ module _ (h : Held) (within : T (limits h)) (t : List ℕ) where
       ∙ getD-append-add counts (set ++ behind-settings) j 0
       ∙ List·getD-append set behind-settings 0 j l
 
-  abbrev settingsWith : ℕ → Settings
-  settingsWith x = record { counting = countingFrom x }
-
   -- and are read back
   settings-back : settingsAt block ≡ h .settings
   unfolding settingsBytes
-  settings-back = ap settingsWith (setting-stands 0 (omega arith)) ∙ ap (λ (c : Counting). record { counting = c }) (counting-back (h .settings .counting))
+  settings-back =
+      set-back block (h .settings .counting) (h .settings .hole) (k .settings)
+      (record { same = λ j l. setting-stands j (omega (arith, settings-length (h .settings))) })
 
   none : Rule
   none = Both 0 0 0

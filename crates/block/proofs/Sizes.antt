@@ -3,9 +3,11 @@ use mathlib.Core.Path.{_≡_, refl}
 use mathlib.Core.List.{List}
 use Prim.Native.Nat.{ℕ, _-_, _≤_}
 use native.Mathlib.Omega.{arith}
-use lib.IntN.{ℤ}
+use lib.IntN.{ℤ, pos}
 use lib.ListN.{length, length-append, length-replicate}
 use Rattle.codec.specs.Bytes.{bytes}
+use Rattle.terms.specs.declared.Hole.{Hole}
+use Rattle.terms.specs.declared.Hole.the-variants.{Whole, Part}
 use Rattle.terms.specs.declared.Rule.{Rule}
 use Rattle.terms.specs.declared.Rule.the-variants.{Label, Both, Link, Via}
 use Rattle.terms.specs.declared.RulePlace.{RulePlace}
@@ -14,10 +16,12 @@ use Rattle.terms.specs.declared.Atom.the-variants.{Has, Linked}
 use Rattle.terms.specs.declared.Mark.{Mark}
 use Rattle.terms.specs.declared.Settings.{Settings}
 use Rattle.block.specs.Layout.{
+  countingByte,
+  holeBytes,
   settingsBytes,
   placeBytes,
   ruleBytes,
-  markBytesOf,
+  endsBytes,
   atomBytes,
   markBytes,
   zeros,
@@ -29,9 +33,20 @@ use Rattle.block.specs.Layout.{
 }
 use Rattle.block.specs.Places.{placeBytesOf}
 
-pub settings-size : (σ : Settings) → length (settingsBytes σ) ≤ HEADER - SETTINGS-AT
+ends-size : (k a b c : ℕ) (t d : ℤ) → length (endsBytes k a b c t d) ≡ MARK-BYTES
+unfolding endsBytes bytes
+ends-size k a b c t d = refl
+
+hole-size : (c : ℕ) (H : Hole) → length (holeBytes c H) ≡ MARK-BYTES
+hole-size c Whole = ends-size _ _ _ _ _ _
+hole-size c (Part t d) = ends-size _ _ _ _ _ _
+
+pub settings-length : (σ : Settings) → length (settingsBytes σ) ≡ MARK-BYTES
 unfolding settingsBytes
-settings-size σ = omega arith
+settings-length σ = hole-size (countingByte (σ .counting)) (σ .hole)
+
+pub settings-size : (σ : Settings) → length (settingsBytes σ) ≤ HEADER - SETTINGS-AT
+settings-size σ = omega (arith, settings-length σ)
 
 pub rule-size : (ρ : Rule) → length (ruleBytes ρ) ≡ RULE-BYTES
 unfolding placeBytes bytes
@@ -44,9 +59,8 @@ pub place-size : (p : RulePlace) → length (placeBytesOf p) ≡ RULE-BYTES
 place-size p = rule-size (p .rule)
 
 atom-size : (x : Atom) (t d : ℤ) → length (atomBytes x t d) ≡ MARK-BYTES
-unfolding markBytesOf bytes
-atom-size (Has a A) t d = refl
-atom-size (Linked a r b) t d = refl
+atom-size (Has a A) t d = ends-size _ _ _ _ _ _
+atom-size (Linked a r b) t d = ends-size _ _ _ _ _ _
 
 pub mark-size : (m : Mark) → length (markBytes m) ≡ MARK-BYTES
 mark-size m = atom-size (m .atom) (m .top) (m .bottom)

@@ -2,10 +2,12 @@
 use Prim.Native.Nat.{ℕ, _+_, _-_, _*_}
 use mathlib.Core.List.{List, [], _∷_, _++_}
 use lib.ListN.{length, replicate}
-use lib.IntN.{ℤ}
+use lib.IntN.{ℤ, pos}
 use Rattle.codec.specs.Bytes.{bytes, bytesOfSigned32}
 use Rattle.terms.specs.declared.Counting.{Counting}
 use Rattle.terms.specs.declared.Counting.the-variants.{Old, New}
+use Rattle.terms.specs.declared.Hole.{Hole}
+use Rattle.terms.specs.declared.Hole.the-variants.{Whole, Part}
 use Rattle.terms.specs.declared.Rule.{Rule}
 use Rattle.terms.specs.declared.Rule.the-variants.{Label, Both, Link, Via}
 use Rattle.terms.specs.declared.Atom.{Atom}
@@ -26,24 +28,29 @@ ruleBytes (Both A B C) = placeBytes 3 A B C 0
 ruleBytes (Link o r s) = placeBytes 4 (codeOf o) r s (distanceOf o)
 ruleBytes (Via r A B) = placeBytes 5 r A B 0
 
--- docs/STATE.md, a mark place: kind, three names, top, bottom
-unfoldable pub markBytesOf : ℕ → ℕ → ℕ → ℕ → ℤ → ℤ → List ℕ
-markBytesOf k a b c t d = k ∷ a ∷ b ∷ c ∷ (bytesOfSigned32 t ++ bytesOfSigned32 d)
+-- docs/STATE.md, four bytes and two depths: a mark place is kind, three names, top, bottom
+unfoldable pub endsBytes : ℕ → ℕ → ℕ → ℕ → ℤ → ℤ → List ℕ
+endsBytes k a b c t d = k ∷ a ∷ b ∷ c ∷ (bytesOfSigned32 t ++ bytesOfSigned32 d)
 
 abbrev pub atomBytes : Atom → ℤ → ℤ → List ℕ
-atomBytes (Has a A) t d = markBytesOf 6 a A 0 t d
-atomBytes (Linked a r b) t d = markBytesOf 7 a r b t d
+atomBytes (Has a A) t d = endsBytes 6 a A 0 t d
+atomBytes (Linked a r b) t d = endsBytes 7 a r b t d
 
 abbrev pub markBytes : Mark → List ℕ
 markBytes m = atomBytes (m .atom) (m .top) (m .bottom)
 
--- docs/STATE.md, the settings in the header: the counting, 0 old and 1 new
+-- docs/STATE.md, the settings in the header: the counting, 0 old and 1 new; the profile's byte, zero; the hole, 0 none and 1 there; zero; its
+-- ends, zero where there is none
 abbrev pub countingByte : Counting → ℕ
 countingByte Old = 0
 countingByte New = 1
 
+abbrev pub holeBytes : ℕ → Hole → List ℕ
+holeBytes c Whole = endsBytes c 0 0 0 (pos 0) (pos 0)
+holeBytes c (Part t b) = endsBytes c 0 1 0 t b
+
 unfoldable pub settingsBytes : Settings → List ℕ
-settingsBytes s = countingByte (s .counting) ∷ []
+settingsBytes s = holeBytes (countingByte (s .counting)) (s .hole)
 
 -- the parts of each element, one after the other
 unfoldable pub cat : {X : Type 0} → (X → List ℕ) → List X → List ℕ
@@ -53,7 +60,7 @@ cat f (x ∷ xs) = f x ++ cat f xs
 unfoldable pub zeros : ℕ → List ℕ
 zeros n = replicate n 0
 
--- 01, State and tables: the block's fixed size; a header, the rule places, the mark places
+-- 01, State and tables, and 02, Slip 2: the block's fixed size; a header, the rule places, the mark places
 abbrev pub SETTINGS-AT : ℕ
 SETTINGS-AT = 4
 

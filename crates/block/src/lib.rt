@@ -6,13 +6,14 @@ ghost use lib.ListN.{length, take, drop};
 ghost use Rattle.codec.specs.Bytes.{put};
 ghost use Rattle.terms.specs.Limits.{RULES, MARKS};
 ghost use Rattle.state.specs.State.{Counts-in, heldOf};
-ghost use Rattle.block.specs.Layout.{countingByte, settingsBytes, placeBytes, ruleBytes, markBytesOf, markBytes, cat, zeros};
+ghost use Rattle.block.specs.Layout.{countingByte, settingsBytes, placeBytes, ruleBytes, endsBytes, markBytes, cat, zeros};
 ghost use Rattle.block.specs.Layout.{SETTINGS-AT, HEADER, MARKS-AT, SIZE, encode};
-ghost use Rattle.block.specs.Block.{countingFrom, settingsAt, ruleOf, ruleRead, markOf, markRead, sameBytes, Loaded-as};
+ghost use Rattle.block.specs.Block.{countingFrom, holeFrom, settingsAt, ruleOf, ruleRead, markOf, markRead, sameBytes, Loaded-as};
 ghost use Rattle.block.specs.Places.{placeFrom, markFrom, placeBytesOf, Filled, Not-good};
 use state::State;
 use terms::Atom;
 use terms::Counting;
+use terms::Hole;
 use terms::MARKS;
 use terms::Mark;
 use terms::Operator;
@@ -124,9 +125,10 @@ fn put_rule(b: &mut [u8], at: usize, rule: Rule)
     }
 }
 
-fn put_mark_place(s: &mut [u8], at: usize, kind: u8, a: u8, b: u8, c: u8, top: i32, bottom: i32)
+// Four bytes and two depths.
+fn put_ends(s: &mut [u8], at: usize, kind: u8, a: u8, b: u8, c: u8, top: i32, bottom: i32)
     requires { ⌜ at + 12 ≤ length (now s) ⌝ }
-    ensures { λ _. ⌜ now (s .exit) ≡ put (now (s .entry)) at (markBytesOf kind a b c top bottom) ⌝ }
+    ensures { λ _. ⌜ now (s .exit) ≡ put (now (s .entry)) at (endsBytes kind a b c top bottom) ⌝ }
 {
     put_fields(s, at, kind, a, b, c);
     codec::put_i32(s, at + 4, top);
@@ -141,8 +143,8 @@ fn put_mark(b: &mut [u8], at: usize, mark: Mark)
     let top = mark.top;
     let bottom = mark.bottom;
     match atom {
-        Atom::Has(item, label) => put_mark_place(b, at, 6, item, label, 0, top, bottom),
-        Atom::Linked(from, kind, to) => put_mark_place(b, at, 7, from, kind, to, top, bottom),
+        Atom::Has(item, label) => put_ends(b, at, 6, item, label, 0, top, bottom),
+        Atom::Linked(from, kind, to) => put_ends(b, at, 7, from, kind, to, top, bottom),
     }
 }
 
@@ -165,20 +167,38 @@ fn counting_from(byte: u8) -> Counting
     Counting::New
 }
 
+// What no hole is stored as is read as one; the comparison in `load` finds it.
+fn hole_from(byte: u8, top: i32, bottom: i32) -> Hole
+    ensures { λ r. ⌜ r ≡ holeFrom byte top bottom ⌝ }
+{
+    if byte == 0 {
+        return Hole::Whole;
+    }
+    Hole::Part(top, bottom)
+}
+
 fn put_settings(b: &mut [u8], settings: Settings)
     requires { ⌜ SIZE ≤ length (now b) ⌝ }
     ensures { λ _. ⌜ now (b .exit) ≡ put (now (b .entry)) SETTINGS-AT (settingsBytes settings) ⌝ }
 {
     let counting = settings.counting;
-    b[SETTINGS_AT] = counting_byte(counting);
+    let hole = settings.hole;
+    let count = counting_byte(counting);
+    match hole {
+        Hole::Whole => put_ends(b, SETTINGS_AT, count, 0, 0, 0, 0, 0),
+        Hole::Part(top, bottom) => put_ends(b, SETTINGS_AT, count, 0, 1, 0, top, bottom),
+    }
 }
 
 fn settings_at(b: &[u8]) -> Settings
     requires { ⌜ SIZE ≤ length (now b) ⌝ }
     ensures { λ r. ⌜ r ≡ settingsAt (now (b .entry)) ⌝ }
 {
+    let top = codec::i32_at(b, SETTINGS_AT + 4);
+    let bottom = codec::i32_at(b, SETTINGS_AT + 8);
     Settings {
         counting: counting_from(b[SETTINGS_AT]),
+        hole: hole_from(b[SETTINGS_AT + 2], top, bottom),
     }
 }
 

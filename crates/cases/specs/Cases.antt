@@ -1,6 +1,6 @@
 -- The cases that 01 marks P, and 02's beside them: one table.
 use mathlib.Core.List.{List, [], _∷_, _++_}
-use Prim.Native.Nat.{ℕ, zero, suc}
+use Prim.Native.Nat.{ℕ, zero, suc, _-_, _^_}
 use lib.IntN.{ℤ, pos, negsuc}
 use Rattle.terms.specs.declared.Operator.{Operator}
 use Rattle.terms.specs.declared.Operator.the-variants.{Within, Between, Above, Below, Anywhere}
@@ -8,11 +8,12 @@ use Rattle.terms.specs.declared.Rule.{Rule}
 use Rattle.terms.specs.declared.Rule.the-variants.{Label, Both, Link, Via}
 use Rattle.terms.specs.declared.Atom.the-variants.{Has, Linked}
 use Rattle.terms.specs.declared.Mark.{Mark}
-use Rattle.terms.specs.Limits.{ITEMS, EVERY, NEVER, NO-TOP, NO-BOTTOM}
+use Rattle.terms.specs.Limits.{ITEMS, EVERY, NEVER, SHALLOWEST, DEEPEST, NO-TOP, NO-BOTTOM}
 use Rattle.terms.specs.declared.Question.{Question}
 use Rattle.terms.specs.declared.Question.the-variants as Question
 use Rattle.terms.specs.declared.Counting.the-variants.{New}
-use Rattle.terms.specs.Held.{Held, freshSettings, withCounting}
+use Rattle.terms.specs.declared.Hole.the-variants.{Part}
+use Rattle.terms.specs.Held.{Held, freshSettings, withCounting, withHole}
 use Rattle.terms.specs.Lists.{strike}
 use Rattle.terms.specs.Same.{sameMark}
 use Rattle.terms.specs.Spans.{Run, run}
@@ -142,9 +143,81 @@ countings =
     ∷ newly (gives Anywhere four (run NO-TOP NO-BOTTOM ∷ []))
     ∷ []
 
--- 01, Cases at the edges: those marked P, in its order but for the rows of every item, which stand behind; then 02's
-abbrev pub cases : List Case
-cases =
+-- the same held and asked in a hole
+abbrev pub bored : ℤ → ℤ → Case → Case
+bored t b c = record { held = withHole (c .held) (Part t b); question = c .question; reply = c .reply }
+
+-- a hole from 95 to 130, around the stretch and the point below it; whether an operator gives this depth in it, and whether EVERY holds there
+abbrev pub hole : Case → Case
+hole c = bored (pos 95) (pos 130) c
+
+abbrev pub bored-at : Operator → ℤ → Reply → Case
+bored-at o i r = hole (on (Label o 1 2 ∷ []) caliper (Question.Holds (Has 0 2) i) r)
+
+abbrev pub every-at : ℤ → Reply → Case
+every-at i r = hole (on [] caliper (Question.Holds (Has 0 EVERY) i) r)
+
+-- the spans of EVERY
+abbrev pub every-in : List Mark → List Run → Case
+every-in ms rs = on [] ms (Question.Spans 0 EVERY) (Answered (Spans rs))
+
+-- link 1 from 0 to 1 ANYWHERE there is link 0, which is at 100, at this depth
+abbrev pub roped : ℤ → Reply → Case
+roped i r = hole (on (Link Anywhere 0 1 ∷ []) (link 0 0 1 (pos 100) ∷ []) (Question.Holds (Linked 0 1 1) i) r)
+
+-- 02, Slip 5: each operator gives only depths inside, also from a mark at the hole's end, and EVERY holds at those alone; asked at an end and one
+-- outside it, EVERY and links at either, EVERY also far outside; rules on EVERY; without marks; of one depth; above 0, across it; the whole range;
+-- in the place of another; by the new counting; contradiction above, below and far outside, of any item
+abbrev pub holes : List Case
+holes =
+    hole (gives Anywhere caliper (run (pos 95) (pos 130) ∷ []))
+    ∷ hole (gives Above caliper (run (pos 95) (pos 120) ∷ []))
+    ∷ hole (gives Below caliper (run (pos 100) (pos 130) ∷ []))
+    ∷ hole (gives Between caliper (run (pos 100) (pos 120) ∷ []))
+    ∷ hole (gives (Within 10) caliper (run (pos 100) (pos 110) ∷ run (pos 120) (pos 120) ∷ []))
+    ∷ hole (newly (gives (Within 10) caliper (run (pos 100) (pos 120) ∷ [])))
+    ∷ bored-at Anywhere (pos 94) (Answered No)
+    ∷ bored-at Anywhere (pos 95) (Answered Yes)
+    ∷ bored-at Above (pos 94) (Answered No)
+    ∷ bored-at Above (pos 95) (Answered Yes)
+    ∷ bored-at Below (pos 130) (Answered Yes)
+    ∷ bored-at Below (pos 131) (Answered No)
+    ∷ roped (pos 94) (Answered No)
+    ∷ roped (pos 95) (Answered Yes)
+    ∷ roped (pos 130) (Answered Yes)
+    ∷ roped (pos 131) (Answered No)
+    ∷ hole (every-in caliper (run (pos 95) (pos 130) ∷ []))
+    ∷ every-at (pos 94) (Answered No)
+    ∷ every-at (pos 95) (Answered Yes)
+    ∷ every-at (pos 130) (Answered Yes)
+    ∷ every-at (pos 131) (Answered No)
+    ∷ every-at (negsuc (2 ^ 63 - 1)) (Answered No)
+    ∷ every-at (pos (2 ^ 63 - 1)) (Answered No)
+    ∷ hole (on (Both EVERY EVERY 1 ∷ []) [] (Question.Spans 0 1) (Answered (Spans (run (pos 95) (pos 130) ∷ []))))
+    ∷ hole (on (Label Between EVERY 1 ∷ []) [] (Question.Spans 0 1) (Answered (Spans (run (pos 95) (pos 130) ∷ []))))
+    ∷ hole (every-in [] (run (pos 95) (pos 130) ∷ []))
+    ∷ hole (bored (pos 0) (pos 10) (every-in [] (run (pos 95) (pos 130) ∷ [])))
+    ∷ hole (has-runs [] [])
+    ∷ bored (pos 100) (pos 120) (gives Anywhere caliper (run (pos 100) (pos 120) ∷ []))
+    ∷ bored (pos 100) (pos 120) (every-in caliper (run (pos 100) (pos 120) ∷ []))
+    ∷ bored (pos 100) (pos 120) (gives Above (label 0 1 (pos 100) ∷ []) (run (pos 100) (pos 100) ∷ []))
+    ∷ bored (pos 100) (pos 120) (gives Below (label 0 1 (pos 120) ∷ []) (run (pos 120) (pos 120) ∷ []))
+    ∷ bored (pos 120) (pos 120) (gives Anywhere (label 0 1 (pos 120) ∷ []) (run (pos 120) (pos 120) ∷ []))
+    ∷ bored (pos 120) (pos 120) (every-in [] (run (pos 120) (pos 120) ∷ []))
+    ∷ bored (pos 120) (pos 120) (on [] [] (Question.Holds (Has 0 EVERY) (pos 119)) (Answered No))
+    ∷ bored (pos 120) (pos 120) (on [] [] (Question.Holds (Has 0 EVERY) (pos 121)) (Answered No))
+    ∷ bored (negsuc 199) (negsuc 99) (every-in [] (run (negsuc 199) (negsuc 99) ∷ []))
+    ∷ bored (negsuc 4) (pos 5) (gives Anywhere (label 0 1 (pos 0) ∷ []) (run (negsuc 4) (pos 5) ∷ []))
+    ∷ bored SHALLOWEST DEEPEST (every-in caliper (run SHALLOWEST DEEPEST ∷ []))
+    ∷ hole (on contrary [] (Question.Holds (Has 0 1) (pos 94)) (Contradiction 0))
+    ∷ hole (on contrary [] (Question.Holds (Linked 0 1 1) (pos (2 ^ 63 - 1))) (Contradiction 0))
+    ∷ hole (on contrary [] (Question.Spans 0 1) (Contradiction 0))
+    ∷ hole (on (Label (Within 1) 1 NEVER ∷ []) (label 2 1 (pos 100) ∷ []) (Question.Holds (Has 0 1) (pos 131)) (Contradiction 2))
+    ∷ []
+
+-- 01, Cases at the edges: those marked P, in its order but for the rows of every item
+abbrev pub edges : List Case
+edges =
     gives (Within 3) four (run (negsuc 2) (pos 0) ∷ run (pos 4) (pos 4) ∷ [])
     ∷ gives (Within 1) four (run (negsuc 2) (negsuc 1) ∷ run (pos 0) (pos 0) ∷ run (pos 4) (pos 4) ∷ [])
     ∷ gives Between four (run (negsuc 2) (pos 4) ∷ [])
@@ -159,4 +232,8 @@ cases =
     ∷ joined (pos 10) (Question.Spans 0 3) (Answered (Spans (run (pos 10) (pos 10) ∷ [])))
     ∷ joined (pos 11) (Question.Holds (Has 0 3) (pos 11)) (Answered No)
     ∷ joined (pos 11) (Question.Spans 0 3) (Answered (Spans []))
-    ∷ (nothing ITEMS ++ (stretches ++ countings))
+    ∷ []
+
+-- and these behind them; then 02's
+abbrev pub cases : List Case
+cases = edges ++ (nothing ITEMS ++ (stretches ++ (countings ++ holes)))

@@ -3,9 +3,10 @@
 use mathlib.Core.Path.{_≡_, refl, sym, subst}
 use mathlib.Core.Logic.{⊎-elim}
 use mathlib.Core.Bool.{Bool}
-use mathlib.Core.List.{List, [], _∷_, map, List·Memᴰ·cases-cons, List·Memᴰ·not-nil}
+use mathlib.Core.List.{List, [], _∷_, _++_, map, List·Memᴰ·cases-cons, List·Memᴰ·not-nil}
 use lib.Dec.{T}
-use Rattle.terms.specs.Tests.{and-both}
+use Rattle.terms.specs.Tests.{and-both, both-and}
+use Rattle.terms.specs.Limits.{ITEMS}
 use Rattle.terms.specs.Held.{_∈_}
 use Rattle.terms.specs.Lists.{some, every, once, strike, depthCount, limits}
 use Rattle.tables.specs.Executed.{model}
@@ -14,7 +15,7 @@ use Rattle.terms.specs.Limited.{limited, in-range}
 use Rattle.decide.specs.Decide.{answer-decides}
 use Rattle.decide.specs.Answer.{answer}
 use Rattle.decide.specs.Decides.{Reply, Decides}
-use Rattle.cases.specs.Cases.{Case, cases}
+use Rattle.cases.specs.Cases.{Case, edges, nothing, stretches, countings, holes, cases}
 
 -- ---- computed, and so decided
 
@@ -31,9 +32,43 @@ pub record Checked (cs : List Case) : Type 0 where
   pub kept : T (every within cs)
   pub same : map computed cs ≡ map expected cs
 
-checked : Checked cases
+-- rows behind others
+more-checked : (cs ds : List Case) → Checked cs → Checked ds → Checked (cs ++ ds)
+unfolding every
+more-checked [] ds C D = D
+more-checked (c ∷ cs) ds C D =
+    let w = and-both (within c) (every within cs) (C .kept) in
+    let s = C .same in
+    let e : computed c ≡ c .reply = cc in
+    let f : map computed cs ≡ map expected cs = cc in
+    let R = more-checked cs ds (record { kept = w .1; same = f }) D in
+    record { kept = both-and (within c) (every within (cs ++ ds)) (w .0) (R .kept); same = λ i. e i ∷ R .same i }
+
+edges-checked : Checked edges
 unfolding limits every once some strike depthCount answer model runs
-checked = record { kept = tt; same = refl }
+edges-checked = record { kept = tt; same = refl }
+
+nothing-checked : Checked (nothing ITEMS)
+unfolding limits every once some strike depthCount answer model runs
+nothing-checked = record { kept = tt; same = refl }
+
+stretches-checked : Checked stretches
+unfolding limits every once some strike depthCount answer model runs
+stretches-checked = record { kept = tt; same = refl }
+
+countings-checked : Checked countings
+unfolding limits every once some strike depthCount answer model runs
+countings-checked = record { kept = tt; same = refl }
+
+holes-checked : Checked holes
+unfolding limits every once some strike depthCount answer model runs
+holes-checked = record { kept = tt; same = refl }
+
+checked : Checked cases
+checked =
+    more-checked edges (nothing ITEMS ++ (stretches ++ (countings ++ holes))) edges-checked
+    (more-checked (nothing ITEMS) (stretches ++ (countings ++ holes)) nothing-checked
+    (more-checked stretches (countings ++ holes) stretches-checked (more-checked countings holes countings-checked holes-checked)))
 
 each : (cs : List Case) → Checked cs → (c : Case) → c ∈ cs → Decides (c .held) (c .question) (c .reply)
 unfolding every

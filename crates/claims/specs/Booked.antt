@@ -6,15 +6,17 @@ use Prim.Native.Nat.{ℕ, _<_}
 use native.Mathlib.Omega.{arith}
 use borrow.Author.Tests.{eqb-true, eqb-false, eq-eqb, ne-eqb}
 use lib.Dec.{eqb}
+use lib.IntN.{ℤ}
 use lib.ListN.{length}
 use Rattle.terms.specs.declared.Answer.the-variants as Answer
 use Rattle.terms.specs.declared.Counting.{Counting}
+use Rattle.terms.specs.declared.Hole.the-variants.{Part}
 use Rattle.terms.specs.declared.Mark.{Mark}
 use Rattle.terms.specs.declared.Question.{Question}
 use Rattle.terms.specs.declared.Rule.{Rule}
 use Rattle.terms.specs.declared.Tested.{Tested}
 use Rattle.terms.specs.declared.Tested.the-variants as Tested
-use Rattle.terms.specs.Held.{Held, withRules, withMarks, withCounting, emptyHeld}
+use Rattle.terms.specs.Held.{Held, withRules, withMarks, withCounting, withHole, emptyHeld}
 use Rattle.terms.specs.Limited.{InRange}
 use Rattle.terms.specs.Lists.{strike}
 use Rattle.terms.specs.Refusals.{rank, tested, test, Test}
@@ -30,12 +32,14 @@ use Rattle.service.specs.Buffers.{isShort}
 use Rattle.service.specs.Call.{Outcome, Refused, Ended, Changed, Asked, obey, judged}
 use Rattle.claims.specs.Ascending.{clash}
 use Rattle.claims.specs.Table.{
+  Counts,
+  Confines,
   Said,
   Empties,
   Adds,
   Puts,
   Takes,
-  Counts,
+  Sets,
   Asks,
   said,
   brokenFrame,
@@ -61,6 +65,7 @@ use Rattle.claims.specs.Reference.{
   put,
   struck,
   counted,
+  confined,
   answered,
 }
 use Rattle.claims.specs.Kinds.{saidOf, said-command}
@@ -115,6 +120,7 @@ module _ (h : Held) (f : Fed) where
   by-command (Command.Put m) e l d Told.changed = put (record { passes = e; left = l; says = d })
   by-command (Command.Take m) e l d Told.changed = struck (record { passes = e; left = l; says = d })
   by-command (Command.Count c) e l d Told.changed = counted (record { passes = e; left = l; says = d })
+  by-command (Command.Confine t b) e l d Told.changed = confined (record { passes = e; left = l; says = d })
   by-command (Command.Ask q) e l d (Told.asked r w) = answered r (record { passes = e; left = l; says = d }) w
 
   by-left :
@@ -140,7 +146,8 @@ module _ (h : Held) (f : Fed) where
     add-entry : {ρ : Rule} → Entry Tested.Passed false (Adds ρ) (plain Answer.Done (recordUsed f)) (withRules h (h .rules ++ (ρ ∷ [])))
     put-entry : {m : Mark} → Entry Tested.Passed false (Puts m) (plain Answer.Done (recordUsed f)) (withMarks h (h .marks ++ (m ∷ [])))
     take-entry : {m : Mark} → Entry Tested.Passed false (Takes m) (plain Answer.Done (recordUsed f)) (withMarks h (strike (sameMark m) (h .marks)))
-    count-entry : {c : Counting} → Entry Tested.Passed false (Counts c) (plain Answer.Done (recordUsed f)) (withCounting h c)
+    count-entry : {c : Counting} → Entry Tested.Passed false (Sets (Counts c)) (plain Answer.Done (recordUsed f)) (withCounting h c)
+    confine-entry : {t b : ℤ} → Entry Tested.Passed false (Sets (Confines t b)) (plain Answer.Done (recordUsed f)) (withHole h (Part t b))
     ask-entry : {q : Question} (r : Reply) → Decides h q r → Entry Tested.Passed false (Asks q) (shown r (recordUsed f)) h
 
   entry-one : {t : Tested} {v : Bool} {x : Said} {r r′ : Result} {k k′ : Held} → Entry t v x r k → Entry t v x r′ k′ → (r ≡ r′) × (k ≡ k′)
@@ -151,6 +158,7 @@ module _ (h : Held) (f : Fed) where
   entry-one put-entry put-entry = (refl, refl)
   entry-one take-entry take-entry = (refl, refl)
   entry-one count-entry count-entry = (refl, refl)
+  entry-one confine-entry confine-entry = (refl, refl)
   entry-one (ask-entry {q = q} r d) (ask-entry r′ e) = (ap (λ w. shown w (recordUsed f)) (at-most-one h q r r′ d e), refl)
 
   abbrev Here : Result → Held → Type 0
@@ -172,6 +180,7 @@ module _ (h : Held) (f : Fed) where
   entry (put a) = accepted-here a put-entry
   entry (struck a) = accepted-here a take-entry
   entry (counted a) = accepted-here a count-entry
+  entry (confined a) = accepted-here a confine-entry
   entry (answered r a d) = accepted-here a (ask-entry r d)
 
   -- the book has at most one result for each feeding, and holds one thing then

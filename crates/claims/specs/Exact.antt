@@ -12,7 +12,7 @@ use Rattle.terms.specs.declared.Atom.the-variants.{Has}
 use Rattle.terms.specs.declared.Question.{Question}
 use Rattle.terms.specs.declared.Question.the-variants as Question
 use Rattle.terms.specs.Limits.{INTERVALS}
-use Rattle.terms.specs.Held.{Held}
+use Rattle.terms.specs.Held.{Held, holeIn}
 use Rattle.terms.specs.Lists.{limits}
 use Rattle.terms.specs.Depths.{Derived}
 use Rattle.terms.specs.Spans.{Run, Longest, flat}
@@ -69,9 +69,9 @@ pub record Exact (h : Held) (q : Question) (r : After) : Type 0 where
   pub by-model : Told-by (Never h → ⊥) (Derived h) (λ x i. Derived h x i → ⊥) q r
   -- demand 3's words: an interpretation satisfies marks and rules, and all that do make the statement true or one of them makes it false
   pub by-interpretations : Told-by (Some h) (InAll h) (InOneNot h) q r
-  -- each bit of both tables, by 01's numbering of the pieces, 193 at most
+  -- each bit of both tables, by 01's numbering of the pieces, in a hole of its pieces alone, 193 at most
   pub number : ℤ → ℕ
   pub count : ℕ
   pub few : count ≤ INTERVALS
-  pub pieces : Pieces (h .marks) number count
+  pub pieces : Pieces (holeIn h) (h .marks) number count
   pub tables : Shows h number count (r .buffers .labels) (r .buffers .links)

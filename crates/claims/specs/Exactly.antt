@@ -147,8 +147,8 @@ module _ (h : Held) (w : Limited h) (m : Buffers) (u : ℕ) where
         number = interval h;
         count = count h;
         few = omega (arith, few-cuts h w);
-        pieces = pieces h;
-        tables = table-exact h (few-cuts h w) (drop LABEL-ENTRIES (m .labels)) (drop LINK-ENTRIES (m .links));
+        pieces = pieces h (R .hole);
+        tables = table-exact h R (few-cuts h w) (drop LABEL-ENTRIES (m .labels)) (drop LINK-ENTRIES (m .links));
       }
 
 -- ---- the call that asks
@@ -176,6 +176,7 @@ asks-command (Command.Add ρ) q e = differ (cc)
 asks-command (Command.Put k) q e = differ (cc)
 asks-command (Command.Take k) q e = differ (cc)
 asks-command (Command.Count k) q e = differ (cc)
+asks-command (Command.Confine t b) q e = differ (cc)
 asks-command (Command.Ask p) q e = let f : p ≡ q = cc in ap Command.Ask f
 
 module _ (m : Buffers) (s : List ℕ) (h : Held) (q : Question) (a : Asking m s h q) where

@@ -6,6 +6,7 @@ use mathlib.Core.List.{List, [], _∷_, _++_, List·Memᴰ·append-cases, List·
 use Prim.Native.Nat.{ℕ}
 use native.Mathlib.Omega.{arith}
 use lib.Dec.{T, ltb, leb, nltb→le, nleb→lt}
+use lib.IntN.{ℤ}
 use lib.ListN.{length, length-append}
 use Rattle.terms.specs.declared.Counting.{Counting}
 use Rattle.terms.specs.declared.Rule.{Rule}
@@ -13,7 +14,9 @@ use Rattle.terms.specs.declared.Mark.{Mark}
 use Rattle.terms.specs.Limits.{RULES, MARKS, DEPTHS}
 use Rattle.terms.specs.declared.Tested.the-variants as Tested
 use Rattle.terms.specs.Refusals.{Test, test, tested}
-use Rattle.terms.specs.Held.{Held, endsOf, withCounting, isRule, isMark, emptyHeld}
+use Rattle.terms.specs.declared.Hole.the-variants.{Part}
+use Rattle.terms.specs.Holes.{isHole, liesIn}
+use Rattle.terms.specs.Held.{Held, holeIn, endsOf, withCounting, withHole, isRule, isMark, emptyHeld}
 use Rattle.terms.specs.Same.{sameRule, sameMark}
 use Rattle.terms.specs.SameLaws.{same-rule, rule-same, same-mark, mark-same}
 use Rattle.terms.specs.Lists.{some, every, strike, once, depthCount}
@@ -32,7 +35,7 @@ pub use Rattle.terms.specs.Limited.{
   in-range,
 }
 pub use Rattle.decide.specs.Count.{fewer-ends, few-cuts}
-use Rattle.state.specs.Changes.{ruleTests, putTests, addRule, putMark, takeMark}
+use Rattle.state.specs.Changes.{ruleTests, roomTests, putTests, confineTests, addRule, putMark, takeMark}
 
 -- ---- a test that does not apply
 
@@ -44,6 +47,10 @@ every-snoc : {X : Type 0} (f : X → Bool) (xs : List X) (x : X) → T (every f 
 every-snoc f xs x t u =
     in-every f (xs ++ (x ∷ [])) (λ y m.
     ⊎-elim (λ n. every-in f xs t y n) (λ n. subst (λ v. T (f v)) (sym (List·Memᴰ·eq-of-singleton n)) u) (List·Memᴰ·append-cases xs m))
+
+twice : (b : Bool) → T (not (not b)) → T b
+twice true t = tt
+twice false t = t
 
 -- ---- each record
 
@@ -58,6 +65,7 @@ empty-limited = record {
   once-rules = tt;
   once-marks = tt;
   settings = tt;
+  inside = tt;
 }
 
 pub added-limited : (h : Held) (ρ : Rule) → Limited h → T (isRule ρ) → tested (ruleTests h ρ) ≡ Tested.Passed → Limited (addRule h ρ)
@@ -73,13 +81,15 @@ added-limited h ρ w p e =
       once-rules = once-snoc sameRule same-rule rule-same (h .rules) ρ (w .once-rules) (t .0);
       once-marks = w .once-marks;
       settings = w .settings;
+      inside = w .inside;
     }
 
 pub put-limited : (h : Held) (m : Mark) → Limited h → T (isMark m) → tested (putTests h m) ≡ Tested.Passed → Limited (putMark h m)
 put-limited h m w p e =
     let full = test (leb MARKS (length (h .marks))) 11 in
     let deep = test (ltb DEPTHS (depthCount (endsOf (h .marks ++ (m ∷ []))))) 12 in
-    let t = passed (some (sameMark m) (h .marks)) 9 (full ∷ deep ∷ []) e in
+    let o = passed (not (liesIn (holeIn h) m)) 16 (roomTests h m) e in
+    let t = passed (some (sameMark m) (h .marks)) 9 (full ∷ deep ∷ []) (o .1) in
     let u = passed (leb MARKS (length (h .marks))) 11 (deep ∷ []) (t .1) in
     let v = passed (ltb DEPTHS (depthCount (endsOf (h .marks ++ (m ∷ []))))) 12 [] (u .1) in
     record {
@@ -91,6 +101,7 @@ put-limited h m w p e =
       once-rules = w .once-rules;
       once-marks = once-snoc sameMark same-mark mark-same (h .marks) m (w .once-marks) (t .0);
       settings = w .settings;
+      inside = every-snoc (liesIn (holeIn h)) (h .marks) m (w .inside) (twice (liesIn (holeIn h) m) (o .0));
     }
 
 pub counted-limited : (h : Held) (c : Counting) → Limited h → Limited (withCounting h c)
@@ -102,8 +113,28 @@ counted-limited h c w = record {
   marks = w .marks;
   once-rules = w .once-rules;
   once-marks = w .once-marks;
-  settings = tt;
+  settings = w .settings;
+  inside = w .inside;
 }
+
+-- a hole, where no mark is held
+pub confined-limited : (h : Held) (t b : ℤ) → Limited h → T (isHole (Part t b)) → tested (confineTests h) ≡ Tested.Passed → Limited (withHole h (Part t b))
+unfolding every
+confined-limited h t b w p e = record {
+  few-rules = w .few-rules;
+  few-marks = w .few-marks;
+  few-depths = w .few-depths;
+  rules = w .rules;
+  marks = w .marks;
+  once-rules = w .once-rules;
+  once-marks = w .once-marks;
+  settings = p;
+  inside = none (h .marks) (passed (ltb 0 (length (h .marks))) 17 [] e .0);
+}
+  where
+    none : (ms : List Mark) → T (not (ltb 0 (length ms))) → T (every (liesIn (Part t b)) ms)
+    none [] u = tt
+    none (m ∷ ms) u = let z : ⊥ = omega (arith, nltb→le 0 (length (m ∷ ms)) u) in absurd z
 
 pub taken-limited : (h : Held) (m : Mark) → Limited h → Limited (takeMark h m)
 taken-limited h m w = record {
@@ -116,4 +147,6 @@ taken-limited h m w = record {
   once-rules = w .once-rules;
   once-marks = once-strike sameMark same-mark mark-same (sameMark m) (h .marks) (w .once-marks);
   settings = w .settings;
+  inside = in-every (liesIn (holeIn h)) (strike (sameMark m) (h .marks))
+      (λ k n. every-in (liesIn (holeIn h)) (h .marks) (w .inside) k (strike-in (sameMark m) (h .marks) n));
 }

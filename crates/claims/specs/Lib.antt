@@ -17,6 +17,7 @@ pub mod Writing
 pub mod Whole
 pub mod Lent
 pub mod Exactly
+pub mod Outside
 pub mod SpanRecord
 pub mod Values
 pub mod OneCall

@@ -11,14 +11,17 @@ use lib.Dec.{T, ltb, leb, ltb→lt, leb→le}
 use lib.IntN.{ℤ, pos}
 use lib.ListN.{length, take, drop, replicate, length-append, length-replicate, take-append-drop}
 use Rattle.terms.specs.declared.Counting.{Counting}
+use Rattle.terms.specs.declared.Hole.{Hole}
+use Rattle.terms.specs.declared.Hole.the-variants.{Whole, Part}
 use Rattle.terms.specs.declared.Rule.{Rule}
 use Rattle.terms.specs.declared.Mark.{Mark}
-use Rattle.terms.specs.Tests.{and-both, false-of}
+use Rattle.terms.specs.Tests.{and-both, true-of, false-of}
 use Rattle.terms.specs.Limits.{RULES, MARKS, DEPTHS, LABEL-ENTRIES, LINK-ENTRIES, SPAN-NUMBERS}
 use Rattle.terms.specs.declared.Settings.{Settings}
 use Rattle.terms.specs.declared.Tested.the-variants as Tested
 use Rattle.terms.specs.Refusals.{tested}
-use Rattle.terms.specs.Held.{_∈_, Held, endsOf, isRule, isMark, isSettings, emptyHeld}
+use Rattle.terms.specs.Holes.{isHole, liesIn}
+use Rattle.terms.specs.Held.{_∈_, Held, endsOf, withCounting, withHole, isRule, isMark, isSettings, emptyHeld}
 use Rattle.terms.specs.Same.{sameRule, sameMark}
 use Rattle.terms.specs.SameLaws.{same-rule, rule-same, same-mark, mark-same}
 use Rattle.terms.specs.Lists.{some, once, depthCount, limits}
@@ -118,7 +121,8 @@ room done todo m h = not-short DEPTHS (depthCount (endsOf (done ++ (m ∷ []))))
 
 module _ (𝓛 : Laws) (rule-record : (σ : Settings) (ρ : Rule) → T (isRule ρ) → Written σ (Command.Add ρ))
     (mark-record : (σ : Settings) (m : Mark) → T (isMark m) → Written σ (Command.Put m))
-    (counting-record : (σ : Settings) (c : Counting) → Written σ (Command.Count c)) where
+    (counting-record : (σ : Settings) (c : Counting) → Written σ (Command.Count c))
+    (hole-record : (σ : Settings) (t b : ℤ) → T (isHole (Part t b)) → Written σ (Command.Confine t b)) where
   record Reached (h : Held) : Type 0 where
     held : Limited h
     run : Run-to (encode h)
@@ -150,10 +154,19 @@ module _ (𝓛 : Laws) (rule-record : (σ : Settings) (ρ : Rule) → T (isRule 
   reach-empty = record { held = empty-limited; run = subst Run-to (sym (𝓛 .encode-empty)) from-zeros }
 
   -- 02, Slip 4: kind 17 sets either counting while nothing is held
+  reach-counting : (c : Counting) → Reached (withCounting emptyHeld c)
+  reach-counting c =
+      one-more-record emptyHeld (withCounting emptyHeld c) (Command.Count c) (counting-record (emptyHeld .settings) c) refl (λ u. refl) reach-empty
+
+  -- 02, Slip 5: and kind 18 a hole, unless there is none
+  reach-hole : (c : Counting) (H : Hole) → T (isHole H) → Reached (withHole (withCounting emptyHeld c) H)
+  reach-hole c Whole p = reach-counting c
+  reach-hole c (Part t b) p =
+      let h = withCounting emptyHeld c in
+      one-more-record h (withHole h (Part t b)) (Command.Confine t b) (hole-record (h .settings) t b p) refl (λ u. refl) (reach-counting c)
+
   reach-settings : (σ : Settings) → T (isSettings σ) → Reached (of-parts σ [] [])
-  reach-settings σ t =
-      let c = σ .counting in
-      one-more-record emptyHeld (of-parts σ [] []) (Command.Count c) (counting-record (emptyHeld .settings) c) refl (λ u. refl) reach-empty
+  reach-settings σ p = reach-hole (σ .counting) (σ .hole) p
 
   module _ (σ : Settings) where
     reach-rules :
@@ -171,24 +184,27 @@ module _ (𝓛 : Laws) (rule-record : (σ : Settings) (ρ : Rule) → T (isRule 
 
     module _ (rs : List Rule) where
       reach-marks :
-          (done todo : List Mark) → T (once sameMark (done ++ todo)) → ((m : Mark) → m ∈ todo → T (isMark m)) → length done + length todo ≤ MARKS →
+          (done todo : List Mark) → T (once sameMark (done ++ todo)) → ((m : Mark) → m ∈ todo → T (isMark m)) →
+          ((m : Mark) → m ∈ todo → T (liesIn (σ .hole) m)) → length done + length todo ≤ MARKS →
           depthCount (endsOf (done ++ todo)) ≤ DEPTHS → Reached (of-parts σ rs done) → Reached (of-parts σ rs (done ++ todo))
-      reach-marks done [] o p n k R = subst (λ v. Reached (of-parts σ rs v)) (sym (append-nil done)) R
-      reach-marks done (m ∷ todo) o p n k R =
+      reach-marks done [] o p i n k R = subst (λ v. Reached (of-parts σ rs v)) (sym (append-nil done)) R
+      reach-marks done (m ∷ todo) o p i n k R =
           let a = not-before sameMark same-mark mark-same done m todo o in
           let b = below MARKS (length done) (omega arith) in
           let c = room done todo m k in
+          let d : liesIn (σ .hole) m ≡ true = true-of (liesIn (σ .hole) m) (i m (List·Memᴰ·head refl)) in
           let w = mark-record σ m (p m (List·Memᴰ·head refl)) in
-          let s = one-more-record (of-parts σ rs done) (of-parts σ rs (done ++ (m ∷ []))) (Command.Put m) w (rw (a, b, c)) (λ u. refl) R in
+          let s = one-more-record (of-parts σ rs done) (of-parts σ rs (done ++ (m ∷ []))) (Command.Put m) w (rw (d, a, b, c)) (λ u. refl) R in
           let e = append-assoc done (m ∷ []) todo in
           subst (λ v. Reached (of-parts σ rs v)) e
           (reach-marks (done ++ (m ∷ [])) todo (subst (λ v. T (once sameMark v)) (sym e) o) (λ τ q. p τ (List·Memᴰ·tail q))
-          (simp length-append (omega arith)) (subst (λ v. depthCount (endsOf v) ≤ DEPTHS) (sym e) k) s)
+          (λ τ q. i τ (List·Memᴰ·tail q)) (simp length-append (omega arith)) (subst (λ v. depthCount (endsOf v) ≤ DEPTHS) (sym e) k) s)
 
   reachable : (h : Held) → Limited h → Reached h
   reachable h w =
       let σ = h .settings in
-      reach-marks σ (h .rules) [] (h .marks) (w .once-marks) (λ m n. every-in isMark (h .marks) (w .marks) m n) (omega (arith, w .few-marks)) (w .few-depths)
+      reach-marks σ (h .rules) [] (h .marks) (w .once-marks) (λ m n. every-in isMark (h .marks) (w .marks) m n)
+      (λ m n. every-in (liesIn (σ .hole)) (h .marks) (w .inside) m n) (omega (arith, w .few-marks)) (w .few-depths)
       (reach-rules σ [] (h .rules) (w .once-rules) (λ ρ n. every-in isRule (h .rules) (w .rules) ρ n) (omega (arith, w .few-rules))
       (reach-settings σ (w .settings)))
 

@@ -8,12 +8,13 @@ use lib.ListN.{length}
 use Rattle.terms.specs.declared.Answer.{Answer}
 use Rattle.terms.specs.declared.Answer.the-variants as Answer
 use Rattle.terms.specs.declared.Counting.{Counting}
+use Rattle.terms.specs.declared.Hole.the-variants.{Part}
 use Rattle.terms.specs.declared.Mark.{Mark}
 use Rattle.terms.specs.declared.Question.{Question}
 use Rattle.terms.specs.declared.Rule.{Rule}
 use Rattle.terms.specs.declared.Tested.{Tested}
 use Rattle.terms.specs.declared.Tested.the-variants as Tested
-use Rattle.terms.specs.Held.{Held, withRules, withMarks, withCounting, emptyHeld}
+use Rattle.terms.specs.Held.{Held, withRules, withMarks, withCounting, withHole, emptyHeld}
 use Rattle.terms.specs.Lists.{strike}
 use Rattle.terms.specs.Refusals.{tested}
 use Rattle.terms.specs.Same.{sameMark}
@@ -21,7 +22,7 @@ use Rattle.terms.specs.Spans.{flat}
 use Rattle.records.specs.Formats.{lengthField, usedFor}
 use Rattle.decide.specs.Decides.{Yes, No, Spans, Reply, Contradiction, Answered, Decides}
 use Rattle.service.specs.Buffers.{isShort}
-use Rattle.claims.specs.Table.{Said, Empties, Adds, Puts, Takes, Counts, Asks, said, table}
+use Rattle.claims.specs.Table.{Counts, Confines, Said, Empties, Adds, Puts, Takes, Sets, Asks, said, table}
 
 -- 01, The book: what it is fed from a record call
 pub record Fed : Type 0 where
@@ -66,7 +67,7 @@ pub data Book (h : Held) (f : Fed) : Result → Held → Type 0 where
   refused : {n : ℕ} → judgement h f ≡ Tested.Refused n → Book h f (plain (Answer.Refused n) (usedFor n (f .bytes))) h
   -- nor does end
   ended : judgement h f ≡ Tested.Passed → length (f .bytes) ≡ 0 → Book h f (plain Answer.End 0) h
-  -- RESET empties both lists, and goes back to the old counting
+  -- RESET empties both lists, goes back to the old counting and takes the hole away
   emptied : Accepted h f Empties → Book h f (plain Answer.Done (recordUsed f)) emptyHeld
   -- kinds 2 to 5 add their rule at the end of its list, kinds 6, 7, 13 and 14 their mark
   added : {ρ : Rule} → Accepted h f (Adds ρ) → Book h f (plain Answer.Done (recordUsed f)) (withRules h (h .rules ++ (ρ ∷ [])))
@@ -74,7 +75,9 @@ pub data Book (h : Held) (f : Fed) : Result → Held → Type 0 where
   -- kinds 8, 9, 15 and 16 strike the mark with the same fields; those behind it move up
   struck : {m : Mark} → Accepted h f (Takes m) → Book h f (plain Answer.Done (recordUsed f)) (withMarks h (strike (sameMark m) (h .marks)))
   -- 02, Slip 4: kind 17 sets the counting
-  counted : {c : Counting} → Accepted h f (Counts c) → Book h f (plain Answer.Done (recordUsed f)) (withCounting h c)
+  counted : {c : Counting} → Accepted h f (Sets (Counts c)) → Book h f (plain Answer.Done (recordUsed f)) (withCounting h c)
+  -- 02, Slip 5: kind 18 sets the hole, in the place of another
+  confined : {t b : ℤ} → Accepted h f (Sets (Confines t b)) → Book h f (plain Answer.Done (recordUsed f)) (withHole h (Part t b))
   -- questions change nothing; what is held and the interpretations that satisfy it decide them
   answered : {q : Question} (r : Reply) → Accepted h f (Asks q) → Decides h q r → Book h f (shown r (recordUsed f)) h
 

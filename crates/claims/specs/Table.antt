@@ -3,15 +3,18 @@ use mathlib.Core.Bool.{Bool, false, not, cond, _&&_, _||_}
 use mathlib.Core.List.{List, [], _∷_, _++_}
 use Prim.Native.Nat.{ℕ, _-_, _≤_}
 use lib.Dec.{eqb, ltb, leb}
+use lib.IntN.{ℤ}
+use lib.Signed.{leZ}
 use lib.ListN.{length}
 use Rattle.terms.specs.declared.Counting.{Counting}
 use Rattle.terms.specs.declared.Rule.{Rule}
 use Rattle.terms.specs.declared.Mark.{Mark}
 use Rattle.terms.specs.declared.Question.{Question}
-use Rattle.terms.specs.Limits.{RULES, MARKS, DEPTHS}
+use Rattle.terms.specs.Limits.{RULES, MARKS, DEPTHS, isDepth}
 use Rattle.terms.specs.Refusals.{rank, Test, test}
 use Rattle.terms.specs.Same.{sameMark, sameRule}
-use Rattle.terms.specs.Held.{Held, endsOf, isNamed, isMarkable, isPlaced, isOrdered, isQuestion}
+use Rattle.terms.specs.Holes.{liesIn}
+use Rattle.terms.specs.Held.{Held, holeIn, endsOf, isNamed, isMarkable, isPlaced, isOrdered, isQuestion}
 use Rattle.terms.specs.Lists.{some, depthCount}
 use Rattle.block.specs.Block.{readHeld, good}
 use Rattle.service.specs.Buffers.{Buffers, short}
@@ -31,6 +34,8 @@ use Rattle.records.specs.Formats.{
   linkStretch,
   countingAt,
   isNoCounting,
+  holeTop,
+  holeBottom,
   labelQuestion,
   linkQuestion,
   spansQuestion,
@@ -39,18 +44,22 @@ use Rattle.records.specs.Formats.{
   lengthsOf,
 }
 
--- 01, Records: RESET empties, a rule is added, a mark is put or taken, a question asks; 02, Slip 4: a counting is set; a kind that there is not
--- says nothing
+-- 02: what is set until RESET; Slip 4: the counting; Slip 5: the hole, by its top and bottom
+pub data Setting : Type 0 where
+  Counts : Counting → Setting
+  Confines : ℤ → ℤ → Setting
+
+-- 01, Records: RESET empties, a rule is added, a mark is put or taken, a question asks; 02: something is set; a kind that there is not says nothing
 pub data Said : Type 0 where
   Nothing : Said
   Empties : Said
   Adds : Rule → Said
   Puts : Mark → Said
   Takes : Mark → Said
-  Counts : Counting → Said
+  Sets : Setting → Said
   Asks : Question → Said
 
--- 01, Records: the table of kinds; 02, Slip 2: 13 and 14 put a stretch, 15 and 16 take one; Slip 4: 17 sets the counting
+-- 01, Records: the table of kinds; 02, Slip 2: 13 and 14 put a stretch, 15 and 16 take one; Slip 4: 17 sets the counting; Slip 5: 18 the hole
 unfoldable pub saidBy : ℕ → List ℕ → Said
 saidBy k b =
     cond (eqb k 1) Empties
@@ -69,24 +78,30 @@ saidBy k b =
     (cond (eqb k 14) (Puts (linkStretch b))
     (cond (eqb k 15) (Takes (labelStretch b))
     (cond (eqb k 16) (Takes (linkStretch b))
-    (cond (eqb k 17) (Counts (countingAt b))
-    Nothing))))))))))))))))
+    (cond (eqb k 17) (Sets (Counts (countingAt b)))
+    (cond (eqb k 18) (Sets (Confines (holeTop b) (holeBottom b)))
+    Nothing)))))))))))))))))
 
 -- what the first record of these bytes says
 abbrev pub said : List ℕ → Said
 said s = saidBy (kindField s) (bodyOf s)
 
--- one thing for a rule, a mark to put, a mark to take, a counting and a question each; another for what says none of these
-abbrev pub onSaid : {A : Type 0} → A → (Rule → A) → (Mark → A) → (Mark → A) → (Counting → A) → (Question → A) → Said → A
-onSaid d r p t c q Nothing = d
-onSaid d r p t c q Empties = d
-onSaid d r p t c q (Adds ρ) = r ρ
-onSaid d r p t c q (Puts m) = p m
-onSaid d r p t c q (Takes m) = t m
-onSaid d r p t c q (Counts x) = c x
-onSaid d r p t c q (Asks x) = q x
+-- one thing for a counting and for a hole each
+abbrev pub onSetting : {A : Type 0} → (Counting → A) → (ℤ → ℤ → A) → Setting → A
+onSetting c b (Counts x) = c x
+onSetting c b (Confines t d) = b t d
 
--- ---- 01, Where a record is turned away: each row's case
+-- one thing for a rule, a mark to put, a mark to take, a setting and a question each; another for what says none of these
+abbrev pub onSaid : {A : Type 0} → A → (Rule → A) → (Mark → A) → (Mark → A) → (Setting → A) → (Question → A) → Said → A
+onSaid d r p t s q Nothing = d
+onSaid d r p t s q Empties = d
+onSaid d r p t s q (Adds ρ) = r ρ
+onSaid d r p t s q (Puts m) = p m
+onSaid d r p t s q (Takes m) = t m
+onSaid d r p t s q (Sets x) = s x
+onSaid d r p t s q (Asks x) = q x
+
+-- ---- 01, Where a record is turned away, and 02's numbers: each row's case
 
 -- 3: 1 to 3 bytes left, or length under 2 or more than the bytes after the length field
 abbrev pub brokenFrame : List ℕ → Bool
@@ -103,39 +118,48 @@ wrongLength s = not (allows (lengthsOf (kindField s)) (lengthField s))
 -- 6: an item, label or link kind out of range
 abbrev pub badName : Said → Bool
 badName =
-    onSaid false (λ ρ. not (isNamed ρ)) (λ m. not (isMarkable (m .atom))) (λ m. not (isMarkable (m .atom))) (λ c. false) (λ q. not (isQuestion q))
+    onSaid false (λ ρ. not (isNamed ρ)) (λ m. not (isMarkable (m .atom))) (λ m. not (isMarkable (m .atom))) (λ s. false) (λ q. not (isQuestion q))
 
 -- 7: code or n out of range, where the record has them; 02, Slip 4: what is no counting
 abbrev pub badValue : ℕ → List ℕ → Bool
 badValue k b = cond (eqb k 2 || eqb k 4) (isInvalid (operatorAt b)) (eqb k 17 && isNoCounting b)
 
--- 15: a counting while a rule is held
+-- 15, by 02, Slip 4: a counting while a rule is held
 abbrev pub ruleHeld : Held → Said → Bool
-ruleHeld h = onSaid false (λ ρ. false) (λ m. false) (λ m. false) (λ c. ltb 0 (length (h .rules))) (λ q. false)
+ruleHeld h = onSaid false (λ ρ. false) (λ m. false) (λ m. false) (onSetting (λ c. ltb 0 (length (h .rules))) (λ t b. false)) (λ q. false)
 
--- 8: a mark's depth out of range, either end
+-- 8: a mark's depth out of range; 02, Slip 2: either end; Slip 5: or a hole's
 abbrev pub badDepth : Said → Bool
-badDepth = onSaid false (λ ρ. false) (λ m. not (isPlaced m)) (λ m. not (isPlaced m)) (λ c. false) (λ q. false)
+badDepth =
+    onSaid false (λ ρ. false) (λ m. not (isPlaced m)) (λ m. not (isPlaced m)) (onSetting (λ c. false) (λ t b. not (isDepth t && isDepth b))) (λ q. false)
 
--- 14: top deeper than bottom
+-- 14, by 02, Slip 2: top deeper than bottom, of a mark; Slip 5: or of a hole
 abbrev pub badOrder : Said → Bool
-badOrder = onSaid false (λ ρ. false) (λ m. not (isOrdered m)) (λ m. not (isOrdered m)) (λ c. false) (λ q. false)
+badOrder = onSaid false (λ ρ. false) (λ m. not (isOrdered m)) (λ m. not (isOrdered m)) (onSetting (λ c. false) (λ t b. not (leZ t b))) (λ q. false)
+
+-- 16, by 02, Slip 5: a mark to put that reaches outside the hole
+abbrev pub reachesOutside : Held → Said → Bool
+reachesOutside h = onSaid false (λ ρ. false) (λ m. not (liesIn (holeIn h) m)) (λ m. false) (λ s. false) (λ q. false)
+
+-- 17, by 02, Slip 5: a hole while a mark is held
+abbrev pub markHeld : Held → Said → Bool
+markHeld h = onSaid false (λ ρ. false) (λ m. false) (λ m. false) (onSetting (λ c. false) (λ t b. ltb 0 (length (h .marks)))) (λ q. false)
 
 -- 9: a rule, or a mark to put, that is already held
 abbrev pub alreadyHeld : Held → Said → Bool
-alreadyHeld h = onSaid false (λ ρ. some (sameRule ρ) (h .rules)) (λ m. some (sameMark m) (h .marks)) (λ m. false) (λ c. false) (λ q. false)
+alreadyHeld h = onSaid false (λ ρ. some (sameRule ρ) (h .rules)) (λ m. some (sameMark m) (h .marks)) (λ m. false) (λ s. false) (λ q. false)
 
 -- 10: TAKE of a mark not held
 abbrev pub notHeld : Held → Said → Bool
-notHeld h = onSaid false (λ ρ. false) (λ m. false) (λ m. not (some (sameMark m) (h .marks))) (λ c. false) (λ q. false)
+notHeld h = onSaid false (λ ρ. false) (λ m. false) (λ m. not (some (sameMark m) (h .marks))) (λ s. false) (λ q. false)
 
 -- 11: a rule while 128 are held, or a mark to put while 256 are
 abbrev pub listFull : Held → Said → Bool
-listFull h = onSaid false (λ ρ. leb RULES (length (h .rules))) (λ m. leb MARKS (length (h .marks))) (λ m. false) (λ c. false) (λ q. false)
+listFull h = onSaid false (λ ρ. leb RULES (length (h .rules))) (λ m. leb MARKS (length (h .marks))) (λ m. false) (λ s. false) (λ q. false)
 
 -- 12: a mark to put whose ends, with those of the held marks, are more than 96 depths
 abbrev pub depthsFull : Held → Said → Bool
-depthsFull h = onSaid false (λ ρ. false) (λ m. ltb DEPTHS (depthCount (endsOf (h .marks ++ (m ∷ []))))) (λ m. false) (λ c. false) (λ q. false)
+depthsFull h = onSaid false (λ ρ. false) (λ m. ltb DEPTHS (depthCount (endsOf (h .marks ++ (m ∷ []))))) (λ m. false) (λ s. false) (λ q. false)
 
 -- ---- the table
 
@@ -148,6 +172,8 @@ recordRows h k b =
     ∷ test (ruleHeld h x) 15
     ∷ test (badDepth x) 8
     ∷ test (badOrder x) 14
+    ∷ test (reachesOutside h x) 16
+    ∷ test (markHeld h x) 17
     ∷ test (alreadyHeld h x) 9
     ∷ test (notHeld h x) 10
     ∷ test (listFull h x) 11

@@ -24,7 +24,7 @@ use Rattle.service.specs.Call.{Outcome, Refused, listTests, obey, judged, call}
 use Rattle.service.specs.Buffers.{Buffers, isShort, short}
 use Rattle.claims.specs.Refused.{two-by-block, end-by-block}
 use Rattle.service.specs.Code.{enough}
-use Rattle.claims.specs.Kept.{Limited, in-range, empty-limited, added-limited, put-limited, counted-limited, taken-limited}
+use Rattle.claims.specs.Kept.{Limited, in-range, empty-limited, added-limited, put-limited, counted-limited, confined-limited, taken-limited}
 use Rattle.claims.specs.Reference.{Fed, Result, Book, Entered, at-first, after-call}
 use Rattle.claims.specs.Exact.{Holding}
 use Rattle.claims.specs.Lives.{Event, Agrees, Run-to}
@@ -42,6 +42,7 @@ accepted h (Command.Add ρ) b u w p e = added-limited h ρ w p e
 accepted h (Command.Put m) b u w p e = put-limited h m w p e
 accepted h (Command.Take m) b u w p e = taken-limited h m w
 accepted h (Command.Count c) b u w p e = counted-limited h c w
+accepted h (Command.Confine t d) b u w p e = confined-limited h t d w p e
 accepted h (Command.Ask q) b u w p e = tt
 
 -- a block that decodes is good
@@ -82,6 +83,7 @@ reached-exactly b l =
     (λ σ ρ p. written σ (Command.Add ρ) p)
     (λ σ m p. written σ (Command.Put m) p)
     (λ σ c. written σ (Command.Count c) tt)
+    (λ σ t d p. written σ (Command.Confine t d) p)
     (λ b l t. let w = good-holding b t in (readHeld b, w .within, w .encoded))
     b l
 

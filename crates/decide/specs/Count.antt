@@ -11,7 +11,7 @@ use lib.ListN.{length}
 use Rattle.terms.specs.Order.{ints}
 use Rattle.terms.specs.Limits.{CUTS}
 use Rattle.terms.specs.declared.Mark.{Mark}
-use Rattle.terms.specs.Held.{_∈_, Held, endsOf}
+use Rattle.terms.specs.Held.{_∈_, Held, holeIn, endsOf}
 use Rattle.terms.specs.Ends.{End-of, top-in, bottom-in, ends-only}
 use Rattle.terms.specs.Same.{sameDepth}
 use Rattle.terms.specs.SameLaws.{same-depth, depth-same}
@@ -95,4 +95,4 @@ fewer-ends ms ns f = fewer-depths (endsOf ms) (endsOf ns) (λ d n. go d (ends-on
 
 -- 01, Pieces of the line: two cuts for each marked depth at most
 pub few-cuts : (h : Held) → Limited h → length (cutsOf h) ≤ CUTS
-few-cuts h w = omega (arith, cuts-few (endsOf (h .marks)), depth-count (endsOf (h .marks)), w .few-depths)
+few-cuts h w = omega (arith, cuts-few (holeIn h) (endsOf (h .marks)), depth-count (endsOf (h .marks)), w .few-depths)

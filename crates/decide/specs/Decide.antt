@@ -1,39 +1,40 @@
 -- A question has at most one reply, the computed one is decided, and it says what the least model says. Assumes nothing.
 use mathlib.Core.Path.{_≡_, refl, sym, ap, _∙_, subst}
 use mathlib.Core.Logic.{_⊎_, inl, inr, _↔_}
-use mathlib.Core.Bool.{Bool, true, false, cond, true≢false}
+use mathlib.Core.Bool.{Bool, true, false, cond, _&&_, true≢false}
 use mathlib.Core.List.{List}
 use Prim.Native.Nat.{ℕ, zero, suc, _≤_, _<_, _+_}
 use native.Mathlib.Omega.{arith}
 use native.Mathlib.Decide.{decLt, ℕ-discrete}
 use lib.Dec.{T}
 use lib.IntN.{ℤ}
-use lib.Signed.{_≤ℤ_, _<ℤ_}
 use Rattle.terms.specs.declared.Atom.{Atom}
 use Rattle.terms.specs.declared.Atom.the-variants.{Has}
 use Rattle.terms.specs.declared.Question.{Question}
 use Rattle.terms.specs.declared.Question.the-variants as Question
-use Rattle.terms.specs.Order.{ints}
-use Rattle.terms.specs.Tests.{or-one, true-of, of-true, false-of, neither}
-use Rattle.terms.specs.Limits.{ITEMS, NEVER, NO-TOP, NO-BOTTOM}
-use Rattle.terms.specs.Held.{_∈_, Held, endsOf}
+use Rattle.terms.specs.Tests.{and-both, both-and, or-one, true-of, of-true, false-of, neither}
+use Rattle.terms.specs.Limits.{ITEMS, NEVER}
+use Rattle.terms.specs.Holes.{isInside, InHole}
+use Rattle.terms.specs.Held.{_∈_, Held, holeIn, endsOf}
+use Rattle.terms.specs.HoleLaws.{lineOf, line-ordered, line-covers}
 use Rattle.terms.specs.Ends.{ends-placed}
 use Rattle.terms.specs.Limited.{InRange}
 use Rattle.terms.specs.Model.{by-mark, by-every, by-rule}
 use Rattle.terms.specs.Depths.{Derived}
 use Rattle.terms.specs.Interpretations.{Interpretation, Satisfies}
+use Rattle.terms.specs.Inside.{derived-inside}
 use Rattle.terms.specs.Entailed.{true-in-all}
-use Rattle.terms.specs.Spans.{Run, Longest}
+use Rattle.terms.specs.Spans.{Run, Covers, Longest}
 use Rattle.line.specs.CutLaws.{upto-length, cuts-asc}
 use Rattle.line.specs.Intervals.{cutsOf, interval, count}
 use Rattle.line.specs.IntervalLaws.{met}
-use Rattle.line.specs.Code.{cuts-within}
+use Rattle.line.specs.Code.{cuts-inner}
 use Rattle.spans.specs.Runs.{runs}
-use Rattle.spans.specs.Longest.{longest-one, runs-longest}
+use Rattle.spans.specs.Longest.{run-ends, longest-one, runs-longest}
 use Rattle.verdicts.specs.Reading.{anyBelow, Lookup, absent, first, lowestOf}
 use Rattle.tables.specs.Saturate.{fact, mem}
 use Rattle.tables.specs.Executed.{model}
-use Rattle.tables.specs.ExecutedLaws.{exact, exact-at}
+use Rattle.tables.specs.ExecutedLaws.{exact, exact-inside, exact-at}
 use Rattle.decide.specs.Decides.{Verdict, Yes, No, Spans, Reply, Contradiction, Answered, Never, Lowest, InAll, Says, Decides}
 use Rattle.decide.specs.Answer.{clashes, clashOr, verdict, answer}
 
@@ -121,40 +122,54 @@ any-no (suc n) f e p h t = go (ℕ-discrete p n) (λ k l. any-no n f k p l t)
     go (no d) k = k (neither (f n) (anyBelow n f) e .1) (omega arith)
 
 module _ (h : Held) (R : InRange h) where
-  -- the model read at each depth's interval
+  -- the model read at each depth's interval; no where the depth does not exist
   abbrev pub table : Interpretation
-  table x i = mem (fact x (interval h i)) (model h)
+  table x i = isInside (holeIn h) i && mem (fact x (interval h i)) (model h)
 
   said : {x : Atom} {i : ℤ} → Derived h x i → table x i ≡ true
-  said {x} {i} d = true-of (table x i) (exact h x i .1 d)
+  said {x} {i} d = true-of (table x i) (exact h R x i .1 d)
 
   held : (x : Atom) (i : ℤ) → table x i ≡ true → Derived h x i
-  held x i e = exact h x i .0 (of-true e)
+  held x i e = exact h R x i .0 (of-true e)
 
   -- it satisfies the marks and rules where NEVER is nowhere
   pub table-satisfies : ((a : ℕ) (i : ℤ) → a < ITEMS → Derived h (Has a NEVER) i → ⊥) → Satisfies h table
   table-satisfies f = record {
-    marks = λ m i n e. said (by-mark (record { mark = m; held = n; says = refl; at = e }));
-    every = λ a i l. said (by-every l);
-    never = λ a i l. false-of (table (Has a NEVER) i) (λ t. f a i l (exact h (Has a NEVER) i .0 t));
+    marks = λ m i n e o. said (by-mark (record { mark = m; held = n; says = refl; at = e }, o));
+    every = λ a i l o. said (by-every l o);
+    never = λ a i l. false-of (table (Has a NEVER) i) (λ t. f a i l (exact h R (Has a NEVER) i .0 t));
     rules = λ ρ x y z j k i m n s t g d e. said (by-rule j k m n g (held x j d) (held y k e));
+    outside = λ x i s o. false-of (table x i) (λ t. o (and-both (isInside (holeIn h) i) (mem (fact x (interval h i)) (model h)) t .0));
   }
 
   clash-least : (a : ℕ) → clashes h (model h) a ≡ true → (i : ℤ) × Derived h (Has a NEVER) i
   clash-least a e =
       let (p, l, t) = any-yes (count h) (λ p. mem (fact (Has a NEVER) p) (model h)) e in
-      let (i, d) = met h p l in
-      (i, exact-at h (Has a NEVER) p t i d)
+      let (i, o, d) = met h (R .hole) p l in
+      (i, exact-at h R (Has a NEVER) p t i o d)
 
   no-clash : (a : ℕ) (i : ℤ) → clashes h (model h) a ≡ false → Derived h (Has a NEVER) i → ⊥
   no-clash a i e d =
       any-no (count h) (λ p. mem (fact (Has a NEVER) p) (model h)) e (interval h i) (omega (arith, upto-length (cutsOf h) i))
-      (exact h (Has a NEVER) i .1 d)
+      (exact-inside h R (Has a NEVER) i (derived-inside h d) .1 d)
 
-  ranged : (x : ℤ) → x ∈ cutsOf h → (NO-TOP <ℤ x) × (x ≤ℤ NO-BOTTOM)
-  ranged x m =
-      let w = cuts-within (endsOf (h .marks)) (ends-placed (h .marks) (R .marks)) x m in
-      (omega (ints, w .0), omega (ints, w .1))
+  -- the spans of a label are the longest runs of the depths where the table has it
+  table-longest : (a A : ℕ) → Longest (λ i. T (table (Has a A) i)) (runs (lineOf (holeIn h)) (cutsOf h) (λ p. mem (fact (Has a A) p) (model h)))
+  table-longest a A =
+      let L = runs-longest (lineOf (holeIn h)) (line-ordered (holeIn h) (R .hole)) (cutsOf h) (cuts-asc (holeIn h) (endsOf (h .marks)))
+      (cuts-inner (holeIn h) (endsOf (h .marks)) (R .hole) (ends-placed (h .marks) (R .marks))) (λ p. mem (fact (Has a A) p) (model h)) in
+      record {
+        apart = L .apart;
+        exact = λ i. (
+          λ c. let w = L .exact i .0 c in both-and (isInside (holeIn h) i) (mem (fact (Has a A) (interval h i)) (model h)) (covers i .0 (w .0)) (w .1),
+          λ t.
+              let w = and-both (isInside (holeIn h) i) (mem (fact (Has a A) (interval h i)) (model h)) t in
+              L .exact i .1 (covers i .1 (w .0), w .1),
+        );
+      }
+    where
+      covers : (i : ℤ) → Covers (lineOf (holeIn h)) i ↔ InHole (holeIn h) i
+      covers i = line-covers (holeIn h) (R .hole) i
 
   plain : (q : Question) → Satisfies h table → Says h q (verdict h (model h) q)
   plain (Question.Holds x i) s = go (table x i) refl
@@ -163,11 +178,11 @@ module _ (h : Held) (R : InRange h) where
       go true e = λ D S. true-in-all h R D S (held x i e)
       go false e = (table, s, e)
   plain (Question.Spans a A) s =
-      let L = runs-longest (cutsOf h) (cuts-asc (endsOf (h .marks))) ranged (λ p. mem (fact (Has a A) p) (model h)) in
+      let L = table-longest a A in
       record {
         apart = L .apart;
         exact =
-            λ i. (λ c D S. true-in-all h R D S (exact h (Has a A) i .0 (L .exact i .0 c)), λ f. L .exact i .1 (of-true (f table s)));
+            λ i. (λ c D S. true-in-all h R D S (exact h R (Has a A) i .0 (L .exact i .0 c)), λ f. L .exact i .1 (of-true (f table s)));
       }
 
   pub answer-decides : (q : Question) → Decides h q (answer h q)
@@ -254,17 +269,20 @@ module _ (h : Held) (R : InRange h) where
       has : ℕ → Bool
       has p = mem (fact (Has a A) p) (model h)
 
-      longest : Longest (λ i. Derived h (Has a A) i) (runs (cutsOf h) has)
+      spans : List Run
+      spans = runs (lineOf (holeIn h)) (cutsOf h) has
+
+      longest : Longest (λ i. Derived h (Has a A) i) spans
       longest =
-          let L = runs-longest (cutsOf h) (cuts-asc (endsOf (h .marks))) ranged has in
-          record { apart = L .apart; exact = λ i. (λ c. exact h (Has a A) i .0 (L .exact i .0 c), λ d. L .exact i .1 (exact h (Has a A) i .1 d)) }
+          let L = table-longest a A in
+          record { apart = L .apart; exact = λ i. (λ c. exact h R (Has a A) i .0 (L .exact i .0 c), λ d. L .exact i .1 (exact h R (Has a A) i .1 d)) }
 
       there : {r : Reply} → Cases (Question.Spans a A) r → r ≡ Answered (Spans rs) → (Never h → ⊥) × Longest (λ i. Derived h (Has a A) i) rs
-      there (clear N) e = let f : runs (cutsOf h) has ≡ rs = cc in (N, subst (Longest (λ i. Derived h (Has a A) i)) f longest)
+      there (clear N) e = let f : spans ≡ rs = cc in (N, subst (Longest (λ i. Derived h (Has a A) i)) f longest)
       there (clashing b l) e = let z : _≡_ {A = ℕ} 0 1 = cc in let w : ⊥ = omega arith in absurd w
 
       back : {r : Reply} → Cases (Question.Spans a A) r → (Never h → ⊥) × Longest (λ i. Derived h (Has a A) i) rs → r ≡ Answered (Spans rs)
-      back (clear N) w = ap (λ l. Answered (Spans l)) (longest-one (λ i. Derived h (Has a A) i) (runs (cutsOf h) has) rs longest (w .1))
+      back (clear N) w = ap (λ l. Answered (Spans l)) (longest-one (λ i. Derived h (Has a A) i) spans rs longest (w .1))
       back (clashing b l) w = absurd (never-lowest (w .0) b l)
 
   -- and is given exactly if no item has NEVER
@@ -273,5 +291,23 @@ module _ (h : Held) (R : InRange h) where
     where
       go : (Never h → ⊥) → {r : Reply} → Cases (Question.Spans a A) r → answer h (Question.Spans a A) ≡ r →
           (rs : List Run) × (answer h (Question.Spans a A) ≡ Answered (Spans rs))
-      go N (clear k) e = (runs (cutsOf h) (λ p. mem (fact (Has a A) p) (model h)), e)
+      go N (clear k) e = (runs (lineOf (holeIn h)) (cutsOf h) (λ p. mem (fact (Has a A) p) (model h)), e)
       go N (clashing b l) e = absurd (never-lowest N b l)
+
+  -- ---- 02, Slip 5
+
+  -- a question outside the hole is answered no, or contradiction
+  pub outside-no : (x : Atom) (i : ℤ) → (InHole (holeIn h) i → ⊥) →
+      (answer h (Question.Holds x i) ≡ Answered No) ⊎ ((a : ℕ) × (answer h (Question.Holds x i) ≡ Contradiction a))
+  outside-no x i o = go (reply-cases (Question.Holds x i))
+    where
+      go : {r : Reply} → Cases (Question.Holds x i) r → (r ≡ Answered No) ⊎ ((a : ℕ) × (r ≡ Contradiction a))
+      go (clear N) = inl (ap (λ b. Answered (cond b Yes No)) (false-of (table x i) (λ t. o (derived-inside h (held x i (true-of (table x i) t))))))
+      go (clashing b l) = inr (b, refl)
+
+  -- both ends of a span lie in the hole, so that in one they are never the numbers for no end
+  pub spans-inside : (a A : ℕ) (rs : List Run) → answer h (Question.Spans a A) ≡ Answered (Spans rs) → (r : Run) → r ∈ rs →
+      InHole (holeIn h) (r .top) × InHole (holeIn h) (r .bottom)
+  spans-inside a A rs e r m =
+      let w = run-ends (λ i. Derived h (Has a A) i) rs (spans-exactly a A rs .0 e .1) r m in
+      (derived-inside h (w .0), derived-inside h (w .1))

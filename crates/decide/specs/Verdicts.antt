@@ -1,6 +1,6 @@
 -- What the lent tables say, read as the answer. Assumes nothing.
 use mathlib.Core.Path.{_≡_, refl, sym, ap, _∙_, subst}
-use mathlib.Core.Bool.{Bool, true, false, cond, _||_}
+use mathlib.Core.Bool.{Bool, true, false, cond, _&&_, _||_}
 use mathlib.Core.List.{List, _∷_, _++_}
 use Prim.Native.Nat.{ℕ, zero, suc, pred, _≤_, _<_, _+_, _*_}
 use native.Mathlib.Omega.{arith}
@@ -15,12 +15,16 @@ use Rattle.terms.specs.declared.Question.the-variants as Question
 use Rattle.terms.specs.declared.Answer.{Answer}
 use Rattle.terms.specs.declared.Answer.the-variants as Answer
 use Rattle.terms.specs.Limits.{ITEMS, LABELS, KINDS, NEVER, CUTS, INTERVALS}
-use Rattle.terms.specs.Held.{Held, isStatement, isQuestion}
+use Rattle.terms.specs.declared.Hole.{Hole}
+use Rattle.terms.specs.Holes.{isInside}
+use Rattle.terms.specs.Held.{Held, holeIn, isStatement, isQuestion}
+use Rattle.terms.specs.HoleLaws.{lineOf}
+use Rattle.terms.specs.Limited.{InRange}
 use Rattle.words.specs.Bit.{bitAt}
-use Rattle.line.specs.Cuts.{upto, top-of, bottom-of}
+use Rattle.line.specs.Cuts.{upto}
 use Rattle.line.specs.CutLaws.{upto-length}
 use Rattle.rows.proofs.Laws.{true-false}
-use Rattle.terms.specs.Spans.{Run, run}
+use Rattle.terms.specs.Spans.{Run}
 use Rattle.line.specs.Intervals.{cutsOf, interval, count}
 use Rattle.steps.specs.Concluded.{label-names, link-names}
 use Rattle.tables.specs.Saturate.{fact, mem}
@@ -28,7 +32,7 @@ use Rattle.tables.specs.Executed.{model}
 use Rattle.tables.specs.Tables.{labelEntry, linkEntry, labelTable, linkTable}
 use Rattle.tables.specs.TableLaws.{bit-of, behind-absent, label-entry, link-entry, length-labels, length-links}
 use Rattle.spans.specs.Longest.{runs-fit}
-use Rattle.spans.specs.Runs.{Begun, outside, since, runsFrom, runs, hasLabel}
+use Rattle.spans.specs.Runs.{Begun, outside, since, stretchOf, runsFrom, runs, hasLabel}
 use Rattle.verdicts.specs.Reading.{anyBelow, Lookup, absent, first, lowestOf, neverIn, clashOf, holdsIn}
 use Rattle.verdicts.specs.declared.Clash.the-variants as Clash
 use Rattle.decide.specs.Answer.{clashes, clashOr, verdict, answer}
@@ -47,7 +51,7 @@ one-or-not : (b : Bool) (x : ℕ) → x ≡ cond b 1 0 → eqb x 1 ≡ b
 one-or-not true x e = ap (λ v. eqb v 1) e
 one-or-not false x e = ap (λ v. eqb v 1) e
 
-module _ (h : Held) (few : length (cutsOf h) ≤ CUTS) where
+module _ (h : Held) (R : InRange h) (few : length (cutsOf h) ≤ CUTS) where
   label-bit : (t : List ℕ) (a A p : ℕ) → a < ITEMS → A < LABELS → p < INTERVALS → hasLabel (labelTable h ++ t) a A p ≡ mem (fact (Has a A) p) (model h)
   unfolding labelEntry
   label-bit t a A p l k b =
@@ -89,7 +93,7 @@ module _ (h : Held) (few : length (cutsOf h) ≤ CUTS) where
   never-is : (t : List ℕ) (a : ℕ) → a < ITEMS → neverIn (labelTable h ++ t) a ≡ clashes h (model h) a
   never-is t a l =
       any-same INTERVALS (hasLabel (labelTable h ++ t) a NEVER) (λ p. mem (fact (Has a NEVER) p) (model h)) (λ p b. label-bit t a NEVER p l (omega arith) b)
-      ∙ any-more INTERVALS (count h) (λ p. mem (fact (Has a NEVER) p) (model h)) (λ p b. behind-absent h (Has a NEVER) p (omega arith)) (omega arith)
+      ∙ any-more INTERVALS (count h) (λ p. mem (fact (Has a NEVER) p) (model h)) (λ p b. behind-absent h R (Has a NEVER) p (omega arith)) (omega arith)
 
   lowest-same : (n a : ℕ) (f g : ℕ → Bool) → ((b : ℕ) → b < a + n → f b ≡ g b) → lowestOf f n a ≡ lowestOf g n a
   lowest-same zero a f g e = refl
@@ -107,37 +111,38 @@ module _ (h : Held) (few : length (cutsOf h) ≤ CUTS) where
   pub clash-is : (t : List ℕ) → lowestOf (neverIn (labelTable h ++ t)) ITEMS 0 ≡ lowestOf (clashes h (model h)) ITEMS 0
   clash-is t = lowest-same ITEMS 0 (neverIn (labelTable h ++ t)) (clashes h (model h)) (λ a l. never-is t a (omega arith))
 
-  runs-same : (cs : List ℤ) (f g : ℕ → Bool) (n p : ℕ) (b : Begun) → ((q : ℕ) → q < p + n → f q ≡ g q) → runsFrom cs f n p b ≡ runsFrom cs g n p b
-  runs-same cs f g zero p outside e = refl
-  runs-same cs f g zero p (since s) e = refl
-  runs-same cs f g (suc n) p outside e = go (f p) (g p) (e p (omega arith)) (λ c. runs-same cs f g n (suc p) c (λ q l. e q (omega arith)))
+  runs-same : (e : Run) (cs : List ℤ) (f g : ℕ → Bool) (n p : ℕ) (b : Begun) → ((q : ℕ) → q < p + n → f q ≡ g q) →
+      runsFrom e cs f n p b ≡ runsFrom e cs g n p b
+  runs-same e cs f g zero p outside k = refl
+  runs-same e cs f g zero p (since s) k = refl
+  runs-same e cs f g (suc n) p outside k = go (f p) (g p) (k p (omega arith)) (λ c. runs-same e cs f g n (suc p) c (λ q l. k q (omega arith)))
     where
-      go : (s t : Bool) → s ≡ t → ((c : Begun) → runsFrom cs f n (suc p) c ≡ runsFrom cs g n (suc p) c)
-          → _≡_ {A = List Run} (elim s [ true ↦ runsFrom cs f n (suc p) (since p) | false ↦ runsFrom cs f n (suc p) outside ])
-          (elim t [ true ↦ runsFrom cs g n (suc p) (since p) | false ↦ runsFrom cs g n (suc p) outside ])
+      go : (s t : Bool) → s ≡ t → ((c : Begun) → runsFrom e cs f n (suc p) c ≡ runsFrom e cs g n (suc p) c)
+          → _≡_ {A = List Run} (elim s [ true ↦ runsFrom e cs f n (suc p) (since p) | false ↦ runsFrom e cs f n (suc p) outside ])
+          (elim t [ true ↦ runsFrom e cs g n (suc p) (since p) | false ↦ runsFrom e cs g n (suc p) outside ])
       go true true d k = k (since p)
       go true false d k = true-false d
       go false true d k = true-false (sym d)
       go false false d k = k outside
-  runs-same cs f g (suc n) p (since s) e = go (f p) (g p) (e p (omega arith)) (λ c. runs-same cs f g n (suc p) c (λ q l. e q (omega arith)))
+  runs-same e cs f g (suc n) p (since s) k = go (f p) (g p) (k p (omega arith)) (λ c. runs-same e cs f g n (suc p) c (λ q l. k q (omega arith)))
     where
-      go : (u t : Bool) → u ≡ t → ((c : Begun) → runsFrom cs f n (suc p) c ≡ runsFrom cs g n (suc p) c)
+      go : (u t : Bool) → u ≡ t → ((c : Begun) → runsFrom e cs f n (suc p) c ≡ runsFrom e cs g n (suc p) c)
           → _≡_ {A = List Run}
           (elim u [
-            | true ↦ runsFrom cs f n (suc p) (since s)
-            | false ↦ run (top-of cs s) (bottom-of cs (pred p)) ∷ runsFrom cs f n (suc p) outside
+            | true ↦ runsFrom e cs f n (suc p) (since s)
+            | false ↦ stretchOf e cs s (pred p) ∷ runsFrom e cs f n (suc p) outside
           ])
-          (elim t [ true ↦ runsFrom cs g n (suc p) (since s) | false ↦ run (top-of cs s) (bottom-of cs (pred p)) ∷ runsFrom cs g n (suc p) outside ])
+          (elim t [ true ↦ runsFrom e cs g n (suc p) (since s) | false ↦ stretchOf e cs s (pred p) ∷ runsFrom e cs g n (suc p) outside ])
       go true true d k = k (since s)
       go true false d k = true-false d
       go false true d k = true-false (sym d)
-      go false false d k = ap (λ rs. run (top-of cs s) (bottom-of cs (pred p)) ∷ rs) (k outside)
+      go false false d k = ap (λ rs. stretchOf e cs s (pred p) ∷ rs) (k outside)
 
   pub runs-is : (t : List ℕ) (a A : ℕ) → a < ITEMS → A < LABELS →
-      runs (cutsOf h) (hasLabel (labelTable h ++ t) a A) ≡ runs (cutsOf h) (λ p. mem (fact (Has a A) p) (model h))
+      runs (lineOf (holeIn h)) (cutsOf h) (hasLabel (labelTable h ++ t) a A) ≡ runs (lineOf (holeIn h)) (cutsOf h) (λ p. mem (fact (Has a A) p) (model h))
   unfolding runs
   runs-is t a A l k =
-      runs-same (cutsOf h) (hasLabel (labelTable h ++ t) a A) (λ p. mem (fact (Has a A) p) (model h)) (count h) 0 outside
+      runs-same (lineOf (holeIn h)) (cutsOf h) (hasLabel (labelTable h ++ t) a A) (λ p. mem (fact (Has a A) p) (model h)) (count h) 0 outside
       (λ q b. label-bit t a A q l k (omega arith))
 
   -- ---- the answer, by the tables
@@ -145,31 +150,31 @@ module _ (h : Held) (few : length (cutsOf h) ≤ CUTS) where
   ask-is : (t u : List ℕ) (x : Atom) (i : ℤ) → T (isStatement x) →
       answer h (Question.Holds x i)
       ≡ clashOr (lowestOf (neverIn (labelTable h ++ t)) ITEMS 0)
-      (cond (holdsIn (labelTable h ++ t) (linkTable h ++ u) x (interval h i)) Yes No)
+      (cond (isInside (holeIn h) i && holdsIn (labelTable h ++ t) (linkTable h ++ u) x (interval h i)) Yes No)
   unfolding answer
   ask-is t u x i s =
-      sym (ap (λ l. clashOr l (cond (holdsIn (labelTable h ++ t) (linkTable h ++ u) x (interval h i)) Yes No)) (clash-is t)
-      ∙ ap (λ b. clashOr (lowestOf (clashes h (model h)) ITEMS 0) (cond b Yes No)) (holds-is t u x i s))
+      sym (ap (λ l. clashOr l (cond (isInside (holeIn h) i && holdsIn (labelTable h ++ t) (linkTable h ++ u) x (interval h i)) Yes No)) (clash-is t)
+      ∙ ap (λ b. clashOr (lowestOf (clashes h (model h)) ITEMS 0) (cond (isInside (holeIn h) i && b) Yes No)) (holds-is t u x i s))
 
   spans-is : (t : List ℕ) (a A : ℕ) → a < ITEMS → A < LABELS →
       answer h (Question.Spans a A)
-      ≡ clashOr (lowestOf (neverIn (labelTable h ++ t)) ITEMS 0) (Spans (runs (cutsOf h) (hasLabel (labelTable h ++ t) a A)))
+      ≡ clashOr (lowestOf (neverIn (labelTable h ++ t)) ITEMS 0) (Spans (runs (lineOf (holeIn h)) (cutsOf h) (hasLabel (labelTable h ++ t) a A)))
   unfolding answer
   spans-is t a A l k =
-      sym (ap (λ o. clashOr o (Spans (runs (cutsOf h) (hasLabel (labelTable h ++ t) a A)))) (clash-is t)
+      sym (ap (λ o. clashOr o (Spans (runs (lineOf (holeIn h)) (cutsOf h) (hasLabel (labelTable h ++ t) a A)))) (clash-is t)
       ∙ ap (λ rs. clashOr (lowestOf (clashes h (model h)) ITEMS 0) (Spans rs)) (runs-is t a A l k))
 
--- what the tables say of a question on a line with these cuts, where nothing is contradictory
-abbrev pub tableVerdict : List ℤ → List ℕ → List ℕ → Question → Verdict
-tableVerdict cs labels links (Question.Holds x i) = cond (holdsIn labels links x (upto cs i)) Yes No
-tableVerdict cs labels links (Question.Spans a A) = Spans (runs cs (hasLabel labels a A))
+-- what the tables say of a question in the hole, on a line with these cuts, where nothing is contradictory
+abbrev pub tableVerdict : Hole → List ℤ → List ℕ → List ℕ → Question → Verdict
+tableVerdict H cs labels links (Question.Holds x i) = cond (isInside H i && holdsIn labels links x (upto cs i)) Yes No
+tableVerdict H cs labels links (Question.Spans a A) = Spans (runs (lineOf H) cs (hasLabel labels a A))
 
 -- the answer by the tables: contradiction with the lowest item that has NEVER, else what they say
 pub answer-is :
-    (h : Held) → length (cutsOf h) ≤ CUTS → (t u : List ℕ) (q : Question) → T (isQuestion q) → let labels = labelTable h ++ t in
-    answer h q ≡ clashOr (lowestOf (neverIn labels) ITEMS 0) (tableVerdict (cutsOf h) labels (linkTable h ++ u) q)
-answer-is h few t u (Question.Holds x i) s = ask-is h few t u x i s
-answer-is h few t u (Question.Spans a A) s = let w = label-names a A s in spans-is h few t a A (w .0) (w .1)
+    (h : Held) → InRange h → length (cutsOf h) ≤ CUTS → (t u : List ℕ) (q : Question) → T (isQuestion q) → let labels = labelTable h ++ t in
+    answer h q ≡ clashOr (lowestOf (neverIn labels) ITEMS 0) (tableVerdict (holeIn h) (cutsOf h) labels (linkTable h ++ u) q)
+answer-is h R few t u (Question.Holds x i) s = ask-is h R few t u x i s
+answer-is h R few t u (Question.Spans a A) s = let w = label-names a A s in spans-is h R few t a A (w .0) (w .1)
 
 -- what is read off the table says which reply
 pub clash-nowhere : (l : Lookup) (v : Verdict) → clashOf l ≡ Clash.Nowhere → clashOr l v ≡ Answered v
@@ -197,7 +202,7 @@ spans-fit h few q rs e = go (lowestOf (clashes h (model h)) ITEMS 0) q e
 
     go : (r : Lookup) (p : Question) → clashOr r (verdict h (model h) p) ≡ Answered (Spans rs) → length rs ≤ 97
     go (first a) p d = clash (cc)
-    go absent (Question.Holds x i) d = said (mem (fact x (interval h i)) (model h)) d
+    go absent (Question.Holds x i) d = said (isInside (holeIn h) i && mem (fact x (interval h i)) (model h)) d
     go absent (Question.Spans a A) d =
-        same (runs (cutsOf h) (λ p. mem (fact (Has a A) p) (model h)))
-        (runs-fit (cutsOf h) (λ p. mem (fact (Has a A) p) (model h)) few .0) d
+        same (runs (lineOf (holeIn h)) (cutsOf h) (λ p. mem (fact (Has a A) p) (model h)))
+        (runs-fit (lineOf (holeIn h)) (cutsOf h) (λ p. mem (fact (Has a A) p) (model h)) few .0) d

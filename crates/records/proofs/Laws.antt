@@ -18,6 +18,14 @@ pub one-test : (p : Bool) (n : ℕ) → cond p Tested.Passed (Tested.Refused n) 
 one-test true n = refl
 one-test false n = refl
 
+-- one test, then another
+pub two-tests :
+    (p q : Bool) (m n : ℕ) → orElse (cond p Tested.Passed (Tested.Refused m)) (cond q Tested.Passed (Tested.Refused n))
+    ≡ tested (test (not p) m ∷ test (not q) n ∷ [])
+two-tests true true m n = refl
+two-tests true false m n = refl
+two-tests false q m n = refl
+
 -- one test, then another, then a third
 pub three-tests :
     (p q r : Bool) (l m n : ℕ) →

@@ -3,6 +3,7 @@ use mathlib.Core.Bool.{Bool, true, false, not, cond}
 use mathlib.Core.List.{List}
 use Prim.Native.Nat.{ℕ, _+_, _-_}
 use lib.Dec.{eqb, ltb, leb}
+use lib.IntN.{ℤ}
 use lib.ListN.{length, getD, take, drop}
 use Rattle.codec.specs.Bytes.{little, signed32At, signed64At}
 use Rattle.terms.specs.declared.Counting.{Counting}
@@ -76,6 +77,13 @@ countingAt b = countingOf (getD b 0 0)
 abbrev pub isNoCounting : List ℕ → Bool
 isNoCounting b = not (isCounting (getD b 0 0))
 
+-- 02, Slip 5: the hole's top and bottom
+abbrev pub holeTop : List ℕ → ℤ
+holeTop b = signed32At b 0
+
+abbrev pub holeBottom : List ℕ → ℤ
+holeBottom b = signed32At b 4
+
 -- 01, Records: the questions
 abbrev pub labelQuestion : List ℕ → Question
 labelQuestion b = Question.Holds (Has (getD b 0 0) (getD b 1 0)) (signed64At b 2)
@@ -99,7 +107,7 @@ isUnknown (Lengths.Exactly n) = false
 isUnknown (Lengths.AtLeast n) = false
 isUnknown Lengths.Unknown = true
 
--- 01, Records: the length of each kind's records; 02, Slip 2: the stretches; Slip 4: the counting
+-- 01, Records: the length of each kind's records; 02, Slip 2: the stretches; Slip 4: the counting; Slip 5: the hole
 unfoldable pub lengthsOf : ℕ → Lengths
 lengthsOf k =
     cond (eqb k 1) (Lengths.Exactly 2)
@@ -119,7 +127,8 @@ lengthsOf k =
     (cond (eqb k 15) (Lengths.Exactly 12)
     (cond (eqb k 16) (Lengths.Exactly 13)
     (cond (eqb k 17) (Lengths.Exactly 3)
-    Lengths.Unknown))))))))))))))))
+    (cond (eqb k 18) (Lengths.Exactly 10)
+    Lengths.Unknown)))))))))))))))))
 
 -- 01, Where a record is turned away: bytes used are 0 for what is judged before 3, all that is left for 3, else length + 2
 abbrev pub usedFor : ℕ → List ℕ → ℕ

@@ -6,6 +6,7 @@ use Prim.Native.Nat.{ℕ, _+_, _<_}
 use native.Mathlib.Omega.{arith}
 use lib.Dec.{T, eqb}
 use lib.IntN.{ℤ}
+use lib.Signed.{leZ}
 use lib.ListN.{length, getD}
 use mir.Syntax.{w32}
 use mir.Val.{SFits, toZ, ofZ}
@@ -23,11 +24,14 @@ use Rattle.terms.specs.declared.Atom.{Atom}
 use Rattle.terms.specs.declared.Atom.the-variants.{Has, Linked}
 use Rattle.terms.specs.declared.Mark.{Mark}
 use Rattle.terms.specs.declared.Question.{Question}
+use Rattle.terms.specs.declared.Hole.the-variants.{Part}
 use Rattle.terms.specs.declared.Settings.{Settings}
 use Rattle.terms.specs.Countings.{isCounting}
 use Rattle.terms.specs.Counted.{countingNumber}
 use Rattle.terms.specs.Operators.{operatorOf, codeOf, distanceOf, isOperator, orIdentity}
 use Rattle.terms.specs.Readings.{ProperRead, read-proper, operator-read, distance-fits, depth-fits}
+use Rattle.terms.specs.Limits.{isDepth}
+use Rattle.terms.specs.Holes.{isHole}
 use Rattle.terms.specs.Held.{isNamed, isRule, isMark, isMarkable, isPlaced, isOrdered, isQuestion}
 use Rattle.terms.specs.Ends.{top-placed, bottom-placed}
 use Rattle.terms.specs.Same.{kindOf}
@@ -44,6 +48,7 @@ use Rattle.records.specs.Parsed as Parsed
 use Rattle.records.specs.Records.{
   operatorTests,
   markTests,
+  holeTests,
   questionTests,
   Kind,
   kinds,
@@ -69,6 +74,8 @@ use Rattle.records.specs.Formats.{
   labelStretch,
   linkStretch,
   countingAt,
+  holeTop,
+  holeBottom,
   labelQuestion,
   linkQuestion,
   spansQuestion,
@@ -78,13 +85,14 @@ use Rattle.records.specs.Formats.{
 }
 use Rattle.records.specs.Frame.{recordBytes, parse-record}
 
--- a command whose names, operator and ends are in range; a question's depth may be any, and so may a counting
+-- a command whose names, operator and ends are in range and order; a question's depth may be any, and so may a counting
 abbrev pub Proper : Command → Bool
 Proper Command.Reset = true
 Proper (Command.Add ρ) = isRule ρ
 Proper (Command.Put m) = isMark m
 Proper (Command.Take m) = isMark m
 Proper (Command.Count c) = true
+Proper (Command.Confine t b) = isHole (Part t b)
 Proper (Command.Ask q) = isQuestion q
 
 -- ---- the table, row by row
@@ -129,10 +137,17 @@ ProperParsed Parsed.Nothing = Unit {0}
 ProperParsed (Parsed.Refused n u) = Unit {0}
 ProperParsed (Parsed.Record c b u) = T (Proper c)
 
--- what passes one test, and three
+-- what passes one test, two, and three
 one-test : (p : Bool) (n : ℕ) (c : Command) → (T p → T (Proper c)) → ProperDecoded (decodedAs (tested (test (not p) n ∷ [])) c)
 one-test true n c h = h tt
 one-test false n c h = tt
+
+two-tests :
+    (p q : Bool) (m n : ℕ) (c : Command) → (T (p && q) → T (Proper c)) →
+    ProperDecoded (decodedAs (tested (test (not p) m ∷ test (not q) n ∷ [])) c)
+two-tests true true m n c h = h tt
+two-tests true false m n c h = tt
+two-tests false q m n c h = tt
 
 three-tests :
     (p q r : Bool) (l m n : ℕ) (c : Command) → (T (p && (q && r)) → T (Proper c)) →
@@ -152,6 +167,9 @@ operator-test false r c g h = tt
 
 mark-test : (m : Mark) (c : Command) → (T (isMark m) → T (Proper c)) → (σ : Settings) → ProperDecoded (decodedAs (tested (markTests σ m)) c)
 mark-test m c h σ = three-tests (isMarkable (m .atom)) (isPlaced m) (isOrdered m) 6 8 14 c h
+
+hole-test : (t d : ℤ) → ProperDecoded (decodedAs (tested (holeTests t d)) (Command.Confine t d))
+hole-test t d = two-tests (isDepth t && isDepth d) (leZ t d) 8 14 (Command.Confine t d) (λ w. w)
 
 question-test : (q : Question) (σ : Settings) → ProperDecoded (decodedAs (tested (questionTests σ q)) (Command.Ask q))
 question-test q σ = one-test (isQuestion q) 6 (Command.Ask q) (λ t. t)
@@ -197,7 +215,10 @@ body-proper σ k b =
                                   mark-test (labelStretch b) (Command.Take (labelStretch b)) (λ t. t) σ,
                                   (
                                     mark-test (linkStretch b) (Command.Take (linkStretch b)) (λ t. t) σ,
-                                    (one-test (isCounting (getD b 0 0)) 7 (Command.Count (countingAt b)) (λ t. tt), tt),
+                                    (
+                                      one-test (isCounting (getD b 0 0)) 7 (Command.Count (countingAt b)) (λ t. tt),
+                                      (hole-test (holeTop b) (holeBottom b), tt),
+                                    ),
                                   ),
                                 ),
                               ),
@@ -238,6 +259,7 @@ isChange (Command.Add ρ) = isRule ρ
 isChange (Command.Put m) = isMark m
 isChange (Command.Take m) = isMark m
 isChange (Command.Count c) = true
+isChange (Command.Confine t b) = isHole (Part t b)
 isChange (Command.Ask q) = false
 
 -- 01, Records: an operator's code and n
@@ -273,6 +295,7 @@ changeKind (Command.Add ρ) = kindOf ρ
 changeKind (Command.Put m) = putKind (m .atom)
 changeKind (Command.Take m) = takeKind (m .atom)
 changeKind (Command.Count c) = 17
+changeKind (Command.Confine t b) = 18
 changeKind (Command.Ask q) = 0
 
 abbrev pub changeBody : Command → List ℕ
@@ -281,6 +304,7 @@ changeBody (Command.Add ρ) = ruleBody ρ
 changeBody (Command.Put m) = markBody (m .atom) (m .top) (m .bottom)
 changeBody (Command.Take m) = markBody (m .atom) (m .top) (m .bottom)
 changeBody (Command.Count c) = countingNumber c ∷ []
+changeBody (Command.Confine t b) = bytesOfSigned32 t ++ bytesOfSigned32 b
 changeBody (Command.Ask q) = []
 
 -- a change as a record
@@ -299,6 +323,11 @@ mark-passes true true true c t = refl
 mark-passes true true false c t = absurd t
 mark-passes true false r c t = absurd t
 mark-passes false q r c t = absurd t
+
+hole-passes : (p q : Bool) (c : Command) → T (p && q) → decodedAs (tested (test (not p) 8 ∷ test (not q) 14 ∷ [])) c ≡ Decoded.Command c
+hole-passes true true c t = refl
+hole-passes true false c t = absurd t
+hole-passes false q c t = absurd t
 
 operator-passes :
     (p : Bool) (r : OperatorRead) (o : Operator) (k : Operator → Command) → T p → r ≡ Valid o →
@@ -368,6 +397,15 @@ module _ (σ : Settings) where
   count-decodes Old = refl
   count-decodes New = refl
 
+  hole-decodes : (t d : ℤ) → T (isHole (Part t d)) → decodeBody σ 18 (bytesOfSigned32 t ++ bytesOfSigned32 d) ≡ Decoded.Command (Command.Confine t d)
+  unfolding little bytes bodyTests commandIn
+  hole-decodes t d h =
+      let w = and-both (isDepth t) (isDepth d) (and-both (isDepth t && isDepth d) (leZ t d) h .0) in
+      let e = depth-read t (depth-fits t (w .0)) in
+      let f = depth-read d (depth-fits d (w .1)) in
+      (λ i. decodedAs (tested (holeTests (e i) (f i))) (Command.Confine (e i) (f i)))
+      ∙ hole-passes (isDepth t && isDepth d) (leZ t d) (Command.Confine t d) h
+
   change-decodes : (c : Command) → T (isChange c) → decodeBody σ (changeKind c) (changeBody c) ≡ Decoded.Command c
   unfolding bodyTests commandIn
   change-decodes Command.Reset t = refl
@@ -375,6 +413,7 @@ module _ (σ : Settings) where
   change-decodes (Command.Put m) t = put-decodes (m .atom) (m .top) (m .bottom) t
   change-decodes (Command.Take m) t = take-decodes (m .atom) (m .top) (m .bottom) t
   change-decodes (Command.Count c) t = count-decodes c
+  change-decodes (Command.Confine t b) h = hole-decodes t b h
   change-decodes (Command.Ask q) t = absurd t
 
 -- a body that has a length of its kind, below the largest
@@ -400,6 +439,10 @@ unfolding lengthsOf bytes
 fitting-take (Has a A) t d = record { allowed = tt; small = omega arith; short = omega arith }
 fitting-take (Linked a r b) t d = record { allowed = tt; small = omega arith; short = omega arith }
 
+fitting-hole : (t d : ℤ) → Fitting 18 (bytesOfSigned32 t ++ bytesOfSigned32 d)
+unfolding lengthsOf bytes
+fitting-hole t d = record { allowed = tt; small = omega arith; short = omega arith }
+
 fitting : (c : Command) → T (isChange c) → Fitting (changeKind c) (changeBody c)
 unfolding lengthsOf
 fitting Command.Reset t = record { allowed = tt; small = omega arith; short = omega arith }
@@ -407,6 +450,7 @@ fitting (Command.Add ρ) t = fitting-rule ρ
 fitting (Command.Put m) t = fitting-put (m .atom) (m .top) (m .bottom)
 fitting (Command.Take m) t = fitting-take (m .atom) (m .top) (m .bottom)
 fitting (Command.Count c) t = record { allowed = tt; small = omega arith; short = omega arith }
+fitting (Command.Confine t b) h = fitting-hole t b
 fitting (Command.Ask q) t = absurd t
 
 -- a change in range, written, reads back, and all of its bytes are used

@@ -1,8 +1,10 @@
 -- How a record is read, by its kind: the tests of the frame and of each body, and the command that it says.
-use mathlib.Core.Bool.{not, cond}
+use mathlib.Core.Bool.{not, cond, _&&_}
 use mathlib.Core.List.{List, [], _∷_}
 use Prim.Native.Nat.{ℕ, _+_, _-_}
 use lib.Dec.{eqb, ltb}
+use lib.IntN.{ℤ}
+use lib.Signed.{leZ}
 use lib.ListN.{length}
 use Rattle.terms.specs.declared.OperatorRead.{OperatorRead}
 use Rattle.terms.specs.declared.Rule.{Rule}
@@ -10,6 +12,7 @@ use Rattle.terms.specs.declared.Mark.{Mark}
 use Rattle.terms.specs.declared.Question.{Question}
 use Rattle.terms.specs.declared.Settings.{Settings}
 use Rattle.terms.specs.declared.Tested.{Tested}
+use Rattle.terms.specs.Limits.{isDepth}
 use Rattle.terms.specs.Held.{isNamed, isMarkable, isPlaced, isOrdered, isQuestion}
 use Rattle.terms.specs.Refusals.{Test, test, tested}
 use Rattle.terms.specs.Otherwise.{onTested}
@@ -36,6 +39,8 @@ use Rattle.records.specs.Formats.{
   linkStretch,
   countingAt,
   isNoCounting,
+  holeTop,
+  holeBottom,
   labelQuestion,
   linkQuestion,
   spansQuestion,
@@ -63,6 +68,10 @@ markTests σ m = test (not (isMarkable (m .atom))) 6 ∷ test (not (isPlaced m))
 abbrev pub countingTests : List ℕ → List Test
 countingTests b = test (isNoCounting b) 7 ∷ []
 
+-- 02, Slip 5: an end out of range is number 8, a top deeper than the bottom 14
+abbrev pub holeTests : ℤ → ℤ → List Test
+holeTests t b = test (not (isDepth t && isDepth b)) 8 ∷ test (not (leZ t b)) 14 ∷ []
+
 abbrev pub questionTests : Settings → Question → List Test
 questionTests σ q = test (not (isQuestion q)) 6 ∷ []
 
@@ -77,7 +86,7 @@ pub record Kind : Type 0 where
 abbrev pub kind : ℕ → (Settings → List ℕ → List Test) → (List ℕ → Command) → Kind
 kind n t c = record { number = n; tests = t; command = c }
 
--- 01, Records: the table; 02, Slip 2: the stretches; Slip 4: the counting
+-- 01, Records: the table; 02, Slip 2: the stretches; Slip 4: the counting; Slip 5: the hole
 abbrev pub kinds : List Kind
 kinds =
     kind 1 (λ σ b. []) (λ b. Command.Reset)
@@ -97,6 +106,7 @@ kinds =
     ∷ kind 15 (λ σ b. markTests σ (labelStretch b)) (λ b. Command.Take (labelStretch b))
     ∷ kind 16 (λ σ b. markTests σ (linkStretch b)) (λ b. Command.Take (linkStretch b))
     ∷ kind 17 (λ σ b. countingTests b) (λ b. Command.Count (countingAt b))
+    ∷ kind 18 (λ σ b. holeTests (holeTop b) (holeBottom b)) (λ b. Command.Confine (holeTop b) (holeBottom b))
     ∷ []
 
 -- what f says of the row of a kind; d for a kind that the table has not, which the frame refuses before its body is looked at
@@ -129,6 +139,9 @@ asTake σ m = decodedAs (tested (markTests σ m)) (Command.Take m)
 
 abbrev pub asCounting : List ℕ → Decoded
 asCounting b = decodedAs (tested (countingTests b)) (Command.Count (countingAt b))
+
+abbrev pub asHole : List ℕ → Decoded
+asHole b = decodedAs (tested (holeTests (holeTop b) (holeBottom b))) (Command.Confine (holeTop b) (holeBottom b))
 
 abbrev pub asQuestion : Settings → Question → Decoded
 asQuestion σ q = decodedAs (tested (questionTests σ q)) (Command.Ask q)

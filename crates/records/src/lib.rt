@@ -9,7 +9,7 @@ ghost use Rattle.terms.specs.Held.{isNamed};
 ghost use Rattle.terms.specs.Refusals.{test, tested as testedBy};
 ghost use Rattle.terms.specs.Otherwise.{orElse};
 ghost use Rattle.records.specs.declared.Command.the-variants as To;
-ghost use Rattle.records.specs.Records.{markTests, asRule, asOperatorRule, asPut, asTake, asCounting, asQuestion, kindTests};
+ghost use Rattle.records.specs.Records.{markTests, asRule, asOperatorRule, asPut, asTake, asCounting, asHole, asQuestion, kindTests};
 ghost use Rattle.records.specs.Records.{decodedAs, decodeBody, framed};
 ghost use Rattle.records.specs.Formats.{
   operatorAt,
@@ -44,6 +44,7 @@ pub enum Command {
     Put(Mark),
     Take(Mark),
     Count(Counting),
+    Confine(i32, i32),
     Ask(Question),
 }
 
@@ -89,6 +90,7 @@ fn lengths_of(kind: u16) -> Lengths
         15 => Lengths::Exactly(12),
         16 => Lengths::Exactly(13),
         17 => Lengths::Exactly(3),
+        18 => Lengths::Exactly(10),
         _ => Lengths::Unknown,
     }
 }
@@ -274,6 +276,18 @@ fn count(body: &[u8]) -> Decoded
     )
 }
 
+// The two ends of a hole.
+fn confine(body: &[u8]) -> Decoded
+    requires { ⌜ length (now body) ≡ 8 ⌝ }
+    ensures { λ r. ⌜ r ≡ asHole (now (body .entry)) ⌝ }
+{
+    let top = codec::i32_at(body, 0);
+    let bottom = codec::i32_at(body, 4);
+    let places = Tested::unless(terms::is_depth(top) & terms::is_depth(bottom), 8);
+    let order = Tested::unless(top <= bottom, 14);
+    decoded_as(places.or(order), Command::Confine(top, bottom))
+}
+
 // The table of kinds: decoders. The frame lets no other kind come here.
 pub fn decode_body(settings: Settings, kind: u16, body: &[u8]) -> Decoded
     requires { ⌜ T (allows (lengthsOf kind) (length (now body) + 2)) ⌝ }
@@ -297,6 +311,7 @@ pub fn decode_body(settings: Settings, kind: u16, body: &[u8]) -> Decoded
         15 => take(settings, label_stretch(body)),
         16 => take(settings, link_stretch(body)),
         17 => count(body),
+        18 => confine(body),
         _ => Decoded::Refused(4),
     }
 }

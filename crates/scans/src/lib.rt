@@ -3,6 +3,7 @@ ghost use mathlib.Core.Path.{_≡_};
 ghost use Prim.Native.Nat.{_*_, _≤_};
 ghost use lib.Dec.{T};
 ghost use lib.ListN.{take};
+ghost use Rattle.terms.specs.Holes.{liesIn};
 ghost use Rattle.terms.specs.Held.{isRule, isMark, endsOf};
 ghost use Rattle.terms.specs.Places.{rulesIn, Marks-named};
 ghost use Rattle.terms.specs.Same.{sameRule, sameMark};
@@ -10,6 +11,7 @@ ghost use Rattle.terms.specs.Lists.{some, every, once, depthCount};
 ghost use Rattle.keys.specs.Search.{indexOf};
 ghost use Rattle.scans.specs.Keys.{packedFields, ruleKey, markKey, depthKey, atomNumber, endNumber, ByteRule, MarkFits, DepthFits, Key-of, Keys-of};
 use terms::Atom;
+use terms::Hole;
 use terms::Mark;
 use terms::Rule;
 use terms::RulePlace;
@@ -184,6 +186,19 @@ pub fn marks_in_range(marks: [Mark; 256], count: usize) -> bool
     for i in 0..count {
         let mark = marks[i];
         all = all & mark.in_range();
+    }
+    all
+}
+
+// None reaches outside the hole.
+pub fn marks_inside(marks: [Mark; 256], count: usize, hole: Hole) -> bool
+    requires { ⌜ count ≤ 256 ⌝ }
+    ensures { λ r. ⌜ r ≡ every (liesIn hole) (take count marks) ⌝ }
+{
+    let mut all = true;
+    for i in 0..count {
+        let mark = marks[i];
+        all = all & mark.lies_in(hole);
     }
     all
 }

@@ -10,10 +10,11 @@ use Rattle.terms.specs.declared.Answer.the-variants as Answer
 use Rattle.terms.specs.declared.Question.{Question}
 use Rattle.terms.specs.declared.Question.the-variants as Question
 use Rattle.terms.specs.Limits.{LABEL-ENTRIES, LINK-ENTRIES}
-use Rattle.terms.specs.Held.{Held, withCounting, emptyHeld}
+use Rattle.terms.specs.declared.Hole.the-variants.{Part}
+use Rattle.terms.specs.Held.{Held, withCounting, withHole, emptyHeld}
 use Rattle.terms.specs.Refusals.{Test, test, tested}
 use Rattle.terms.specs.Otherwise.{onTested}
-use Rattle.state.specs.Changes.{ruleTests, putTests, takeTests, countTests, addRule, putMark, takeMark}
+use Rattle.state.specs.Changes.{ruleTests, putTests, takeTests, countTests, confineTests, addRule, putMark, takeMark}
 use Rattle.block.specs.Block.{readHeld, good}
 use Rattle.block.specs.Layout.{SIZE, encode}
 use Rattle.records.specs.declared.Command.{Command}
@@ -48,6 +49,7 @@ listTests h (Command.Add ρ) b = ruleTests h ρ
 listTests h (Command.Put m) b = putTests h m
 listTests h (Command.Take m) b = takeTests h m
 listTests h (Command.Count c) b = countTests h
+listTests h (Command.Confine t d) b = confineTests h
 listTests h (Command.Ask q) b = []
 
 -- 01, The book: what an accepted record does
@@ -57,6 +59,7 @@ obey h (Command.Add ρ) b u = Changed (addRule h ρ) u
 obey h (Command.Put m) b u = Changed (putMark h m) u
 obey h (Command.Take m) b u = Changed (takeMark h m) u
 obey h (Command.Count c) b u = Changed (withCounting h c) u
+obey h (Command.Confine t d) b u = Changed (withHole h (Part t d)) u
 obey h (Command.Ask q) b u = Asked q u
 
 abbrev pub judged : Held → Parsed → Outcome

@@ -10,6 +10,7 @@ use lib.ListN.{length, take, drop}
 use Rattle.terms.specs.declared.Answer.{Answer}
 use Rattle.terms.specs.declared.Answer.the-variants as Answer
 use Rattle.terms.specs.declared.Question.{Question}
+use Rattle.terms.specs.declared.Hole.{Hole}
 use Rattle.terms.specs.declared.Tested.the-variants as Tested
 use Rattle.terms.specs.Tests.{neither}
 use Rattle.terms.specs.Limits.{CUTS, LABEL-ENTRIES, LINK-ENTRIES, SPAN-NUMBERS}
@@ -96,9 +97,9 @@ pub record To-read (labels links : List ℕ) (spans cuts : List ℤ) (n : ℕ) (
   pub named : T (isQuestion q)
 
 -- what the tables say, as the answer and in the span buffer
-pub record Read-off (cs : List ℤ) (labels links : List ℕ) (q : Question) (spans spans′ : List ℤ) (r : Answer) : Type 0 where
-  pub said : r ≡ answerOf (Answered (tableVerdict cs labels links q))
-  pub buffer : spans′ ≡ spansAfter (Answered (tableVerdict cs labels links q)) spans
+pub record Read-off (H : Hole) (cs : List ℤ) (labels links : List ℕ) (q : Question) (spans spans′ : List ℤ) (r : Answer) : Type 0 where
+  pub said : r ≡ answerOf (Answered (tableVerdict H cs labels links q))
+  pub buffer : spans′ ≡ spansAfter (Answered (tableVerdict H cs labels links q)) spans
 
 -- what a question asks for
 pub record To-answer (s : State) (labels links : List ℕ) (spans : List ℤ) (q : Question) : Type 0 where

@@ -22,6 +22,7 @@ use state::Listed;
 use state::State;
 use terms::Answer;
 use terms::CUTS;
+use terms::Hole;
 use terms::Question;
 use terms::Settings;
 use terms::Tested;
@@ -121,22 +122,23 @@ fn read_off(
     spans: &mut [i32],
     cuts: &[i32; CUTS],
     n: usize,
+    hole: Hole,
     question: Question,
 ) -> Answer
     requires { ⌜ To-read (now labels) (now links) (now spans) (now cuts) n question ⌝ }
-    ensures { λ r. ⌜ Read-off (take n (now (cuts .entry))) (now (labels .entry)) (now (links .entry)) question (now (spans .entry))
+    ensures { λ r. ⌜ Read-off hole (take n (now (cuts .entry))) (now (labels .entry)) (now (links .entry)) question (now (spans .entry))
         (now (spans .exit)) r ⌝ }
 {
     match question {
         Question::Holds(atom, depth) => {
             let p = line::interval_of(cuts, n, depth);
-            if verdicts::holds(labels, links, atom, p) {
+            if hole.contains(depth) & verdicts::holds(labels, links, atom, p) {
                 return Answer::Yes;
             }
             Answer::No
         }
         Question::Spans(item, label) => {
-            let count = spans::write_spans(spans, labels, wide(item), wide(label), cuts, n);
+            let count = spans::write_spans(spans, labels, wide(item), wide(label), cuts, n, hole);
             Answer::Spans(count as u16)
         }
     }
@@ -154,11 +156,13 @@ fn answer(
     ensures { λ r. ⌜ Answered-as (heldOf state) question (now (labels .entry)) (now (links .entry)) (now (spans .entry))
         (now (labels .exit)) (now (links .exit)) (now (spans .exit)) r ⌝ }
 {
+    let settings = state.settings;
+    let hole = settings.hole;
     let mut cuts = [0i32; CUTS];
     let n = derive(state, labels, links, &mut cuts);
     match verdicts::clash_in(labels) {
         Clash::Item(item) => Answer::Contradiction(item),
-        Clash::Nowhere => read_off(labels, links, spans, &cuts, n, question),
+        Clash::Nowhere => read_off(labels, links, spans, &cuts, n, hole, question),
     }
 }
 
@@ -203,6 +207,7 @@ fn work(
         Command::Put(mark) => keep(block, state.put(mark), used),
         Command::Take(mark) => keep(block, state.take(mark), used),
         Command::Count(counting) => keep(block, state.count(counting), used),
+        Command::Confine(top, bottom) => keep(block, state.confine(top, bottom), used),
         Command::Ask(question) => {
             let answer = answer(state, labels, links, spans, question);
             Reply { answer, used }

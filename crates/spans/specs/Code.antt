@@ -6,11 +6,10 @@ use Prim.Native.Nat.{ℕ, suc, pred, _+_, _-_, _*_, _≤_, _<_}
 use lib.IntN.{ℤ}
 use lib.ListN.{length, take, drop}
 use Rattle.terms.specs.Limits.{ITEMS, LABELS, LABEL-ENTRIES, SPAN-NUMBERS}
-use Rattle.terms.specs.Spans.{Run, run, flat}
-use Rattle.line.specs.Cuts.{top-of, bottom-of}
+use Rattle.terms.specs.Spans.{Run, flat}
 use Rattle.line.specs.Code.{Cuts-in, Low-cuts}
 use Rattle.spans.specs.declared.Progress.{Progress}
-use Rattle.spans.specs.Runs.{Begun, outside, since, runsFrom, runs}
+use Rattle.spans.specs.Runs.{Begun, outside, since, stretchOf, runsFrom, runs}
 
 -- what a call for a label's spans may be given
 pub record To-write (buffer : List ℤ) (table : List ℕ) (a A : ℕ) (line : List ℤ) (n : ℕ) : Type 0 where
@@ -45,10 +44,10 @@ Earlier outside p = Unit {0}
 Earlier (since s) p = s < p
 
 -- the span that ends before interval p, by whether p has the label
-abbrev pub endedAt : List ℤ → ℕ → Bool → Begun → List Run
-endedAt cs p true g = []
-endedAt cs p false outside = []
-endedAt cs p false (since s) = run (top-of cs s) (bottom-of cs (pred p)) ∷ []
+abbrev pub endedAt : Run → List ℤ → ℕ → Bool → Begun → List Run
+endedAt e cs p true g = []
+endedAt e cs p false outside = []
+endedAt e cs p false (since s) = stretchOf e cs s (pred p) ∷ []
 
 -- whether a span has begun behind interval p
 abbrev pub begunAfter : ℕ → Bool → Begun → Begun
@@ -57,22 +56,22 @@ begunAfter p true outside = since p
 begunAfter p true (since s) = since s
 
 -- before interval p the buffer holds exactly the spans that ended before it, and is as lent behind them
-pub record Written-so-far (cs : List ℤ) (has : ℕ → Bool) (p : ℕ) (g : Progress) (before after : List ℤ) : Type 0 where
+pub record Written-so-far (e : Run) (cs : List ℤ) (has : ℕ → Bool) (p : ℕ) (g : Progress) (before after : List ℤ) : Type 0 where
   pub done : List Run
-  pub left : runs cs has ≡ done ++ runsFrom cs has (suc (length cs) - p) p (begunIn g)
+  pub left : runs e cs has ≡ done ++ runsFrom e cs has (suc (length cs) - p) p (begunIn g)
   pub begins : Earlier (begunIn g) p
   pub written : Spans-written done before after (g .count)
 
 -- what a step at interval p may be given; behind the last interval one more, without the label, ends the open span
-pub record To-step (buffer line : List ℤ) (n p : ℕ) (has : Bool) (g : Progress) : Type 0 where
+pub record To-step (e : Run) (buffer line : List ℤ) (n p : ℕ) (has : Bool) (g : Progress) : Type 0 where
   pub cuts : Cuts-in line n
   pub low : Low-cuts line n
   pub inside : p ≤ n + 1
   pub begins : Earlier (begunIn g) p
-  pub room : 2 * (g .count + length (endedAt (take n line) p has (begunIn g))) ≤ length buffer
+  pub room : 2 * (g .count + length (endedAt e (take n line) p has (begunIn g))) ≤ length buffer
 
 -- what the step at interval p does
-pub record Stepped (cs : List ℤ) (p : ℕ) (has : Bool) (g : Progress) (before after : List ℤ) (r : Progress) : Type 0 where
+pub record Stepped (e : Run) (cs : List ℤ) (p : ℕ) (has : Bool) (g : Progress) (before after : List ℤ) (r : Progress) : Type 0 where
   pub begun : begunIn r ≡ begunAfter p has (begunIn g)
-  pub count : r .count ≡ g .count + length (endedAt cs p has (begunIn g))
-  pub buffer : after ≡ laid before (2 * g .count) (flat (endedAt cs p has (begunIn g)))
+  pub count : r .count ≡ g .count + length (endedAt e cs p has (begunIn g))
+  pub buffer : after ≡ laid before (2 * g .count) (flat (endedAt e cs p has (begunIn g)))

@@ -9,13 +9,13 @@ use native.Mathlib.Decide.{decLt, ℕ-discrete}
 use lib.Dec.{T}
 use lib.IntN.{ℤ, sucℤ, predℤ}
 use lib.Signed.{_≤ℤ_, _<ℤ_}
-use lib.ListN.{length, List·getD-eq-default}
+use lib.ListN.{length}
 use Rattle.terms.specs.Order.{ints, suc-is, pred-is, le-or-gt, ≤-refl}
 use Rattle.terms.specs.Limits.{CUTS, SPAN-NUMBERS, NO-TOP, NO-BOTTOM}
 use Rattle.terms.specs.Held.{_∈_}
 use Rattle.terms.specs.Spans.{Run, run, Covers, Covered, Ordered, Apart, Longest, flat}
-use Rattle.line.specs.Cuts.{Asc, upto, nth, top-of, bottom-of}
-use Rattle.line.specs.CutLaws.{upto-length, nth-le, nth-gt, nth-in, nth-asc, top-own}
+use Rattle.line.specs.Cuts.{Asc, upto, nth, top-from, bottom-to}
+use Rattle.line.specs.CutLaws.{upto-length, nth-le, nth-gt, nth-in, nth-asc, top-own, inner-bottom, last-bottom}
 use Rattle.spans.specs.Runs.{Begun, outside, since, runsFrom, runs}
 use Rattle.spans.specs.Code.{Earlier}
 
@@ -33,6 +33,14 @@ own r f = record { above = inr (≤-refl (r .top)); below = inr (f .order) }
 ordered-in : (rs : List Run) → Apart rs → (r : Run) → r ∈ rs → Ordered r
 ordered-in [] a r m = absurd (List·Memᴰ·not-nil m)
 ordered-in (s ∷ rs) a r m = ⊎-elim (λ e. subst Ordered (sym e) (a .0)) (λ n. ordered-in rs (a .2) r n) (List·Memᴰ·cases-cons m)
+
+-- the ends of a longest run lie in the set
+pub run-ends : (S : ℤ → Type 0) (rs : List Run) → Longest S rs → (r : Run) → r ∈ rs → S (r .top) × S (r .bottom)
+run-ends S rs L r m =
+    let o = ordered-in rs (L .apart) r m in (
+      L .exact (r .top) .0 (r, m, own r o),
+      L .exact (r .bottom) .0 (r, m, record { above = inr (o .order); below = inr (≤-refl (r .bottom)) }),
+    )
 
 -- the first run's top is the least
 tops : (s : Run) (ss : List Run) → Apart (s ∷ ss) → (t : Run) → t ∈ (s ∷ ss) → s .top ≤ℤ t .top
@@ -132,87 +140,109 @@ at-or-after p q h = go (ℕ-discrete q p)
     go (yes e) = inl e
     go (no e) = inr (omega arith)
 
-module _ (cs : List ℤ) (rising : Asc cs) (ranged : (x : ℤ) → x ∈ cs → (NO-TOP <ℤ x) × (x ≤ℤ NO-BOTTOM)) where
+-- a line with these two ends, and cuts strictly inside them
+module _ (line : Run) (proper : Ordered line) (cs : List ℤ) (rising : Asc cs) (ranged : (x : ℤ) → x ∈ cs → (line .top <ℤ x) × (x ≤ℤ line .bottom)) where
+  abbrev top : ℕ → ℤ
+  top p = top-from (line .top) cs p
+
+  abbrev bottom : ℕ → ℤ
+  bottom p = bottom-to (line .bottom) cs p
+
   -- a cut is in range
-  cut : (p : ℕ) → p < length cs → (NO-TOP <ℤ nth cs p) × (nth cs p ≤ℤ NO-BOTTOM)
+  cut : (p : ℕ) → p < length cs → (line .top <ℤ nth cs p) × (nth cs p ≤ℤ line .bottom)
   cut p h = ranged (nth cs p) (nth-in cs p h)
 
-  -- behind the last cut there is no end
-  no-cut : (p : ℕ) → length cs ≤ p → bottom-of cs p ≡ NO-BOTTOM
-  no-cut p h = ap predℤ (List·getD-eq-default cs (sucℤ NO-BOTTOM) {n = p} h)
+  -- before a cut an interval ends
+  at-cut : (p : ℕ) → p < length cs → bottom p ≡ predℤ (nth cs p)
+  at-cut p h = inner-bottom (line .bottom) NO-BOTTOM cs p h
+
+  -- behind the last cut the line ends
+  no-cut : (p : ℕ) → length cs ≤ p → bottom p ≡ line .bottom
+  no-cut p h = last-bottom (line .bottom) cs p h
 
   -- a top covers exactly the intervals from its own on
-  above-of : (p : ℕ) (i : ℤ) → p ≤ length cs → (top-of cs p ≡ NO-TOP) ⊎ (top-of cs p ≤ℤ i) → p ≤ upto cs i
-  above-of zero i h a = omega arith
+  above-of : (p : ℕ) (i : ℤ) → p ≤ length cs → (top p ≡ NO-TOP) ⊎ (top p ≤ℤ i) → ((line .top ≡ NO-TOP) ⊎ (line .top ≤ℤ i)) × (p ≤ upto cs i)
+  above-of zero i h a = (a, omega arith)
   above-of (suc p) i h a = go (decLt p (upto cs i))
     where
-      go : Dec (p < upto cs i) → suc p ≤ upto cs i
-      go (yes k) = k
-      go (no k) =
-          let w = cut p (omega arith) in
-          let v = nth-gt cs i p rising (omega arith) (omega arith) in
-          ⊎-elim (λ e. let z : ⊥ = omega (ints, w .0) in absurd z) (λ e. let z : ⊥ = omega ints in absurd z) a
+      at : nth cs p ≤ℤ i
+      at = let w = cut p (omega arith) in ⊎-elim (λ d. let z : ⊥ = omega (ints, w .0, proper .low) in absurd z) (λ d. d) a
 
-  of-above : (p : ℕ) (i : ℤ) → p ≤ upto cs i → (top-of cs p ≡ NO-TOP) ⊎ (top-of cs p ≤ℤ i)
-  of-above zero i h = inl refl
-  of-above (suc p) i h = inr (nth-le cs i p h)
+      go : Dec (p < upto cs i) → ((line .top ≡ NO-TOP) ⊎ (line .top ≤ℤ i)) × (suc p ≤ upto cs i)
+      go (yes k) = (inr (omega (ints, at, cut p (omega arith) .0)), k)
+      go (no k) = let z : ⊥ = omega (ints, at, nth-gt cs i p rising (omega arith) (omega arith)) in absurd z
+
+  of-above : (p : ℕ) (i : ℤ) → (line .top ≡ NO-TOP) ⊎ (line .top ≤ℤ i) → p ≤ upto cs i → (top p ≡ NO-TOP) ⊎ (top p ≤ℤ i)
+  of-above zero i a h = a
+  of-above (suc p) i a h = inr (nth-le cs i p h)
 
   -- and a bottom those up to its own
-  below-of : (q : ℕ) (i : ℤ) → (bottom-of cs q ≡ NO-BOTTOM) ⊎ (i ≤ℤ bottom-of cs q) → upto cs i ≤ q
-  below-of q i a = go (decLt q (upto cs i))
+  below-of : (q : ℕ) (i : ℤ) → (bottom q ≡ NO-BOTTOM) ⊎ (i ≤ℤ bottom q) → ((line .bottom ≡ NO-BOTTOM) ⊎ (i ≤ℤ line .bottom)) × (upto cs i ≤ q)
+  below-of q i a = go (decLt q (length cs)) (decLt q (upto cs i))
     where
-      go : Dec (q < upto cs i) → upto cs i ≤ q
-      go (no k) = omega arith
-      go (yes k) =
-          let w = cut q (omega (arith, upto-length cs i)) in
-          let v = nth-le cs i q k in
-          ⊎-elim (λ e. let z : ⊥ = omega (ints, w .1, pred-is (nth cs q)) in absurd z) (λ e. let z : ⊥ = omega (ints, pred-is (nth cs q)) in absurd z) a
+      at : q < length cs → i <ℤ nth cs q
+      at k =
+          let w = cut q k in
+          let u = at-cut q k in
+          ⊎-elim (λ d. let z : ⊥ = omega (ints, w .1, proper .high, pred-is (nth cs q)) in absurd z) (λ d. omega (ints, pred-is (nth cs q))) a
 
-  of-below : (q : ℕ) (i : ℤ) → upto cs i ≤ q → (bottom-of cs q ≡ NO-BOTTOM) ⊎ (i ≤ℤ bottom-of cs q)
-  of-below q i h = go (decLt q (length cs))
+      go : Dec (q < length cs) → Dec (q < upto cs i) → ((line .bottom ≡ NO-BOTTOM) ⊎ (i ≤ℤ line .bottom)) × (upto cs i ≤ q)
+      go (yes k) (no l) = (inr (omega (ints, at k, cut q k .1)), omega arith)
+      go (yes k) (yes l) = let z : ⊥ = omega (ints, at k, nth-le cs i q l) in absurd z
+      go (no k) d = (subst (λ z. (z ≡ NO-BOTTOM) ⊎ (i ≤ℤ z)) (no-cut q (omega arith)) a, omega (arith, upto-length cs i))
+
+  of-below : (q : ℕ) (i : ℤ) → (line .bottom ≡ NO-BOTTOM) ⊎ (i ≤ℤ line .bottom) → upto cs i ≤ q → (bottom q ≡ NO-BOTTOM) ⊎ (i ≤ℤ bottom q)
+  of-below q i a h = go (decLt q (length cs))
     where
-      go : Dec (q < length cs) → (bottom-of cs q ≡ NO-BOTTOM) ⊎ (i ≤ℤ bottom-of cs q)
-      go (yes k) = inr (omega (ints, nth-gt cs i q rising h k, pred-is (nth cs q)))
-      go (no k) = inl (no-cut q (omega arith))
+      go : Dec (q < length cs) → (bottom q ≡ NO-BOTTOM) ⊎ (i ≤ℤ bottom q)
+      go (yes k) = inr (omega (ints, at-cut q k, nth-gt cs i q rising h k, pred-is (nth cs q)))
+      go (no k) = subst (λ z. (z ≡ NO-BOTTOM) ⊎ (i ≤ℤ z)) (sym (no-cut q (omega arith))) a
 
   -- the run of the intervals from a to q
   abbrev block : ℕ → ℕ → Run
-  block a q = run (top-of cs a) (bottom-of cs q)
+  block a q = run (top a) (bottom q)
 
   -- it covers exactly those
-  block-covers : (a q : ℕ) (i : ℤ) → a ≤ length cs → Covers (block a q) i ↔ ((a ≤ upto cs i) × (upto cs i ≤ q))
+  block-covers : (a q : ℕ) (i : ℤ) → a ≤ length cs → Covers (block a q) i ↔ (Covers line i × (a ≤ upto cs i) × (upto cs i ≤ q))
   block-covers a q i h = (
-    λ c. (above-of a i h (c .above), below-of q i (c .below)),
-    λ w. record { above = of-above a i (w .0); below = of-below q i (w .1) },
+    λ c. let u = above-of a i h (c .above) in let v = below-of q i (c .below) in (record { above = u .0; below = v .0 }, u .1, v .1),
+    λ w. record { above = of-above a i (w .0 .above) (w .1); below = of-below q i (w .0 .below) (w .2) },
   )
 
-  -- tops are in range
-  top-range : (a : ℕ) → a ≤ length cs → (NO-TOP ≤ℤ top-of cs a) × (top-of cs a ≤ℤ NO-BOTTOM)
-  top-range zero h = (omega ints, omega ints)
+  -- tops are on the line
+  top-range : (a : ℕ) → a ≤ length cs → (line .top ≤ℤ top a) × (top a ≤ℤ line .bottom)
+  top-range zero h = (≤-refl (line .top), proper .order)
   top-range (suc a) h = let w = cut a h in (omega (ints, w .0), w .1)
 
-  -- bottoms are in range
-  bottom-range : (q : ℕ) → (NO-TOP ≤ℤ bottom-of cs q) × (bottom-of cs q ≤ℤ NO-BOTTOM)
+  -- bottoms are on the line
+  bottom-range : (q : ℕ) → (line .top ≤ℤ bottom q) × (bottom q ≤ℤ line .bottom)
   bottom-range q = go (decLt q (length cs))
     where
-      go : Dec (q < length cs) → (NO-TOP ≤ℤ bottom-of cs q) × (bottom-of cs q ≤ℤ NO-BOTTOM)
-      go (yes k) = let w = cut q k in (omega (ints, w .0, pred-is (nth cs q)), omega (ints, w .1, pred-is (nth cs q)))
-      go (no k) = let e = no-cut q (omega arith) in (omega ints, omega ints)
+      go : Dec (q < length cs) → (line .top ≤ℤ bottom q) × (bottom q ≤ℤ line .bottom)
+      go (yes k) = let w = cut q k in let u = at-cut q k in (omega (ints, w .0, pred-is (nth cs q)), omega (ints, w .1, pred-is (nth cs q)))
+      go (no k) = let u = no-cut q (omega arith) in (omega (ints, proper .order), omega ints)
 
   -- its top is not below its bottom
-  block-order : (a q : ℕ) → a ≤ q → q ≤ length cs → top-of cs a ≤ℤ bottom-of cs q
+  block-order : (a q : ℕ) → a ≤ q → q ≤ length cs → top a ≤ℤ bottom q
   block-order zero q h l = bottom-range q .0
-  block-order (suc a) q h l =
-      let e = top-own cs rising (suc a) (omega arith) (omega arith) in
-      let t = top-range (suc a) (omega arith) .1 in
-      ⊎-elim (λ k. omega ints) (λ k. k) (of-below q (top-of cs (suc a)) (omega arith))
+  block-order (suc a) q h l = go (decLt q (length cs))
+    where
+      go : Dec (q < length cs) → nth cs a ≤ℤ bottom q
+      go (yes k) =
+          let u = top-own cs rising (suc a) (omega arith) (omega arith) in
+          omega (ints, at-cut q k, nth-gt cs (nth cs a) q rising (omega arith) k, pred-is (nth cs q))
+      go (no k) = let u = no-cut q (omega arith) in omega (ints, cut a (omega arith) .1)
 
   -- so it is a run
   block-ordered : (a q : ℕ) → a ≤ q → q ≤ length cs → Ordered (block a q)
-  block-ordered a q h l = record { low = top-range a (omega arith) .0; order = block-order a q h l; high = bottom-range q .1 }
+  block-ordered a q h l = record {
+    low = omega (ints, proper .low, top-range a (omega arith) .0);
+    order = block-order a q h l;
+    high = omega (ints, proper .high, bottom-range q .1);
+  }
 
   -- each interval begins below the one before
-  tops-rise : (p : ℕ) → p < length cs → top-of cs p <ℤ top-of cs (suc p)
+  tops-rise : (p : ℕ) → p < length cs → top p <ℤ top (suc p)
   tops-rise zero h = cut 0 h .0
   tops-rise (suc p) h = nth-asc cs p rising h
 
@@ -220,68 +250,78 @@ module _ (cs : List ℤ) (rising : Asc cs) (ranged : (x : ℤ) → x ∈ cs → 
     -- what the list of the spans that end at or behind interval p is
     record From (p : ℕ) (g : Begun) (rs : List Run) : Type 0 where
       apart : Apart rs
-      low : (r : Run) → r ∈ rs → top-of cs (first g p) ≤ℤ r .top
-      exact : (i : ℤ) → Covered rs i ↔ Due has g p (upto cs i)
+      low : (r : Run) → r ∈ rs → top (first g p) ≤ℤ r .top
+      exact : (i : ℤ) → Covered rs i ↔ (Covers line i × Due has g p (upto cs i))
 
     -- where runs are left behind p, p is not the last interval
-    later : (p : ℕ) (rs : List Run) → From (suc p) outside rs → (r : Run) → r ∈ rs → top-of cs p <ℤ r .top
+    later : (p : ℕ) (rs : List Run) → From (suc p) outside rs → (r : Run) → r ∈ rs → top p <ℤ r .top
     later p rs F r m =
         let c = F .exact (r .top) .0 (r, m, own r (ordered-in rs (F .apart) r m)) in
-        let w = tops-rise p (omega (arith, c .0, upto-length cs (r .top))) in
+        let w = tops-rise p (omega (arith, c .1 .0, upto-length cs (r .top))) in
         omega (ints, F .low r m)
 
     -- interval p ends no span
-    kept : (p : ℕ) (g h : Begun) (rs : List Run) → From (suc p) h rs → ((r : Run) → r ∈ rs → top-of cs (first g p) ≤ℤ r .top) →
+    kept : (p : ℕ) (g h : Begun) (rs : List Run) → From (suc p) h rs → ((r : Run) → r ∈ rs → top (first g p) ≤ℤ r .top) →
         ((q : ℕ) → Due has h (suc p) q → Due has g p q) → ((q : ℕ) → Due has g p q → Due has h (suc p) q) → From p g rs
-    kept p g h rs F l f k = record { apart = F .apart; low = l; exact = λ i. (λ c. f (upto cs i) (F .exact i .0 c), λ w. F .exact i .1 (k (upto cs i) w)) }
+    kept p g h rs F l f k = record {
+      apart = F .apart;
+      low = l;
+      exact = λ i. (λ c. let w = F .exact i .0 c in (w .0, f (upto cs i) (w .1)), λ w. F .exact i .1 (w .0, k (upto cs i) (w .1)));
+    }
 
     -- the spans are the open one and those that begin behind p
-    ended : (a p : ℕ) (rs : List Run) → a < p → p ≤ suc (length cs) → Apart rs → ((r : Run) → r ∈ rs → top-of cs p <ℤ r .top) →
-        ((i : ℤ) → Covered rs i ↔ ((suc p ≤ upto cs i) × T (has (upto cs i)))) → (T (has p) → p ≤ length cs → ⊥) → From p (since a) (block a (pred p) ∷ rs)
+    ended : (a p : ℕ) (rs : List Run) → a < p → p ≤ suc (length cs) → Apart rs → ((r : Run) → r ∈ rs → top p <ℤ r .top) →
+        ((i : ℤ) → Covered rs i ↔ (Covers line i × ((suc p ≤ upto cs i) × T (has (upto cs i))))) → (T (has p) → p ≤ length cs → ⊥) →
+        From p (since a) (block a (pred p) ∷ rs)
     ended a p rs h l apart low exact none = record {
       apart = (
         block-ordered a (pred p) (omega arith) (omega arith),
-        (λ r m. let e = next p (omega arith) in omega (ints, low r m)),
+        (λ r m. let e = next p (omega arith) (inner r m) in omega (ints, low r m)),
         apart,
       );
       low = λ r m.
-          ⊎-elim (λ d. subst (λ w. top-of cs a ≤ℤ w .top) (sym d) (≤-refl (top-of cs a)))
-          (λ n. let e = next p (omega arith) in
+          ⊎-elim (λ d. subst (λ w. top a ≤ℤ w .top) (sym d) (≤-refl (top a)))
+          (λ n. let e = next p (omega arith) (inner r n) in
           let o = block-order a (pred p) (omega arith) (omega arith) in
-          omega (ints, low r n, suc-is (bottom-of cs (pred p)))) (List·Memᴰ·cases-cons m);
+          omega (ints, low r n, suc-is (bottom (pred p)))) (List·Memᴰ·cases-cons m);
       exact = λ i. (
         λ c. ⊎-elim
             (λ d. let w = block-covers a (pred p) i (omega arith) .0 (subst (λ r. Covers r i) d (c .2)) in
-            (w .0, λ k. let z : ⊥ = omega (arith, w .1) in absurd z))
-            (λ n. let w = exact i .0 (c .0, n, c .2) in (omega (arith, w .0), λ k. w .1))
+            (w .0, (w .1, λ k. let z : ⊥ = omega (arith, w .2) in absurd z)))
+            (λ n. let w = exact i .0 (c .0, n, c .2) in (w .0, (omega (arith, w .1 .0), λ k. w .1 .1)))
             (List·Memᴰ·cases-cons (c .1)),
-        λ w. go i w (decLt (upto cs i) p),
+        λ w. go i (w .0) (w .1) (decLt (upto cs i) p),
       );
     }
       where
-        next : (p : ℕ) → 0 < p → top-of cs p ≡ sucℤ (bottom-of cs (pred p))
-        next zero h = let z : ⊥ = omega arith in absurd z
-        next (suc p) h = omega (ints, pred-is (nth cs p), suc-is (bottom-of cs p))
+        -- where runs are left behind p, p is not the last interval
+        inner : (r : Run) → r ∈ rs → p ≤ length cs
+        inner r m = omega (arith, upto-length cs (r .top), exact (r .top) .0 (r, m, own r (ordered-in rs apart r m)) .1 .0)
 
-        go : (i : ℤ) → Due has (since a) p (upto cs i) → Dec (upto cs i < p) → Covered (block a (pred p) ∷ rs) i
-        go i w (yes k) = (block a (pred p), head, block-covers a (pred p) i (omega arith) .1 (w .0, omega arith))
-        go i w (no k) = ⊎-elim
+        next : (p : ℕ) → 0 < p → p ≤ length cs → top p ≡ sucℤ (bottom (pred p))
+        next zero h l = let z : ⊥ = omega arith in absurd z
+        next (suc p) h l = omega (ints, at-cut p l, pred-is (nth cs p), suc-is (bottom p))
+
+        go : (i : ℤ) → Covers line i → Due has (since a) p (upto cs i) → Dec (upto cs i < p) → Covered (block a (pred p) ∷ rs) i
+        go i v w (yes k) = (block a (pred p), head, block-covers a (pred p) i (omega arith) .1 (v, w .0, omega arith))
+        go i v w (no k) = ⊎-elim
             (λ e. absurd (none (subst (λ q. T (has q)) e (w .1 (omega arith))) (omega (arith, upto-length cs i))))
-            (λ l. let c = exact i .1 (l, w .1 (omega arith)) in (c .0, List·Memᴰ·tail (c .1), c .2))
+            (λ l. let c = exact i .1 (v, (l, w .1 (omega arith))) in (c .0, List·Memᴰ·tail (c .1), c .2))
             (at-or-after p (upto cs i) (omega arith))
 
     -- behind the last interval nothing is to be covered
-    none-left : (q : ℕ) → length cs < q → (i : ℤ) → Covered [] i ↔ ((q ≤ upto cs i) × T (has (upto cs i)))
-    none-left q h i = (λ c. absurd (List·Memᴰ·not-nil (c .1)), λ w. let z : ⊥ = omega (arith, w .0, upto-length cs i) in absurd z)
+    none-left : (q : ℕ) → length cs < q → (i : ℤ) → Covered [] i ↔ (Covers line i × ((q ≤ upto cs i) × T (has (upto cs i))))
+    none-left q h i = (λ c. absurd (List·Memᴰ·not-nil (c .1)), λ w. let z : ⊥ = omega (arith, w .1 .0, upto-length cs i) in absurd z)
 
     -- by the number of intervals left
-    from : (n p : ℕ) (g : Begun) → p + n ≡ suc (length cs) → Earlier g p → From p g (runsFrom cs has n p g)
+    from : (n p : ℕ) (g : Begun) → p + n ≡ suc (length cs) → Earlier g p → From p g (runsFrom line cs has n p g)
     from zero p outside h s = record { apart = tt; low = λ r m. absurd (List·Memᴰ·not-nil m); exact = none-left p (omega arith) }
     from zero p (since a) h s = ended a p [] s (omega arith) tt (λ r m. absurd (List·Memᴰ·not-nil m)) (none-left (suc p) (omega arith)) (λ t k. omega arith)
     from (suc n) p outside h s = go (has p) refl (from n (suc p) (since p) (omega arith) (omega arith)) (from n (suc p) outside (omega arith) tt)
       where
-        go : (t : Bool) → has p ≡ t → From (suc p) (since p) (runsFrom cs has n (suc p) (since p)) → From (suc p) outside (runsFrom cs has n (suc p) outside) →
-            From p outside (elim t [ true ↦ runsFrom cs has n (suc p) (since p) | false ↦ runsFrom cs has n (suc p) outside ])
+        go : (t : Bool) → has p ≡ t → From (suc p) (since p) (runsFrom line cs has n (suc p) (since p)) →
+            From (suc p) outside (runsFrom line cs has n (suc p) outside) →
+            From p outside (elim t [ true ↦ runsFrom line cs has n (suc p) (since p) | false ↦ runsFrom line cs has n (suc p) outside ])
         go true e F G = kept p outside (since p) _ F (F .low)
             (λ q w. (w .0, ⊎-elim (λ d. subst T (sym (ap has d ∙ e)) tt) (λ k. w .1 k) (at-or-after p q (w .0))))
             (λ q w. (w .0, λ k. w .1))
@@ -290,19 +330,20 @@ module _ (cs : List ℤ) (rising : Asc cs) (ranged : (x : ℤ) → x ∈ cs → 
             (λ q w. ⊎-elim (λ d. absurd (subst T (ap has d ∙ e) (w .1))) (λ k. (k, w .1)) (at-or-after p q (w .0)))
     from (suc n) p (since a) h s = go (has p) refl (from n (suc p) (since a) (omega arith) (omega arith)) (from n (suc p) outside (omega arith) tt)
       where
-        go : (t : Bool) → has p ≡ t → From (suc p) (since a) (runsFrom cs has n (suc p) (since a)) → From (suc p) outside (runsFrom cs has n (suc p) outside) →
-            From p (since a) (elim t [ true ↦ runsFrom cs has n (suc p) (since a) | false ↦ block a (pred p) ∷ runsFrom cs has n (suc p) outside ])
+        go : (t : Bool) → has p ≡ t → From (suc p) (since a) (runsFrom line cs has n (suc p) (since a)) →
+            From (suc p) outside (runsFrom line cs has n (suc p) outside) →
+            From p (since a) (elim t [ true ↦ runsFrom line cs has n (suc p) (since a) | false ↦ block a (pred p) ∷ runsFrom line cs has n (suc p) outside ])
         go true e F G = kept p (since a) (since a) _ F (F .low)
             (λ q w. (w .0, λ k. ⊎-elim (λ d. subst T (sym (ap has d ∙ e)) tt) (λ l. w .1 l) (at-or-after p q k)))
             (λ q w. (w .0, λ k. w .1 (omega arith)))
         go false e F G = ended a p _ s (omega arith) (G .apart) (later p _ G) (G .exact) (λ t k. subst T e t)
 
-  -- 01, Records: the spans are the longest runs of the depths whose interval has the label
-  pub runs-longest : (has : ℕ → Bool) → Longest (λ i. T (has (upto cs i))) (runs cs has)
+  -- 01, Records, and 02, Slip 5: the spans are the longest runs of the line's depths whose interval has the label
+  pub runs-longest : (has : ℕ → Bool) → Longest (λ i. Covers line i × T (has (upto cs i))) (runs line cs has)
   unfolding runs
   runs-longest has =
       let F = from has (suc (length cs)) 0 outside (omega arith) tt in
-      record { apart = F .apart; exact = λ i. (λ c. F .exact i .0 c .1, λ t. F .exact i .1 (omega arith, t)) }
+      record { apart = F .apart; exact = λ i. (λ c. let w = F .exact i .0 c in (w .0, w .1 .1), λ w. F .exact i .1 (w .0, (omega arith, w .1))) }
 
 -- ---- how many there are
 
@@ -317,16 +358,16 @@ either true xs ys m h k = h
 either false xs ys m h k = k
 
 -- each span but the last takes an interval without the label too
-few : (cs : List ℤ) (has : ℕ → Bool) (n p : ℕ) (g : Begun) → 2 * length (runsFrom cs has n p g) ≤ n + 1 + open-too g
-few cs has zero p outside = omega arith
-few cs has zero p (since a) = omega arith
-few cs has (suc n) p outside = either (has p) _ _ _ (omega (arith, few cs has n (suc p) (since p))) (omega (arith, few cs has n (suc p) outside))
-few cs has (suc n) p (since a) = either (has p) _ _ _ (omega (arith, few cs has n (suc p) (since a))) (omega (arith, few cs has n (suc p) outside))
+few : (e : Run) (cs : List ℤ) (has : ℕ → Bool) (n p : ℕ) (g : Begun) → 2 * length (runsFrom e cs has n p g) ≤ n + 1 + open-too g
+few e cs has zero p outside = omega arith
+few e cs has zero p (since a) = omega arith
+few e cs has (suc n) p outside = either (has p) _ _ _ (omega (arith, few e cs has n (suc p) (since p))) (omega (arith, few e cs has n (suc p) outside))
+few e cs has (suc n) p (since a) = either (has p) _ _ _ (omega (arith, few e cs has n (suc p) (since a))) (omega (arith, few e cs has n (suc p) outside))
 
 -- 01, Records: at most every second interval begins a span
-pub runs-few : (cs : List ℤ) (has : ℕ → Bool) → length (runs cs has) ≤ (length cs + 2) / 2
+pub runs-few : (e : Run) (cs : List ℤ) (has : ℕ → Bool) → length (runs e cs has) ≤ (length cs + 2) / 2
 unfolding runs
-runs-few cs has = omega (arith, few cs has (suc (length cs)) 0 outside)
+runs-few e cs has = omega (arith, few e cs has (suc (length cs)) 0 outside)
 
 -- two numbers a pair
 pub flat-length : (rs : List Run) → length (flat rs) ≡ 2 * length rs
@@ -335,5 +376,5 @@ flat-length [] = omega arith
 flat-length (r ∷ rs) = omega (arith, flat-length rs)
 
 -- 01, Records: with at most CUTS cuts, the pairs fit the lent buffer
-pub runs-fit : (cs : List ℤ) (has : ℕ → Bool) → length cs ≤ CUTS → (length (runs cs has) ≤ 97) × (length (flat (runs cs has)) ≤ SPAN-NUMBERS)
-runs-fit cs has h = (omega (arith, runs-few cs has), omega (arith, runs-few cs has, flat-length (runs cs has)))
+pub runs-fit : (e : Run) (cs : List ℤ) (has : ℕ → Bool) → length cs ≤ CUTS → (length (runs e cs has) ≤ 97) × (length (flat (runs e cs has)) ≤ SPAN-NUMBERS)
+runs-fit e cs has h = (omega (arith, runs-few e cs has), omega (arith, runs-few e cs has, flat-length (runs e cs has)))

@@ -3,9 +3,11 @@ ghost use mathlib.Core.Path.{_≡_};
 ghost use mathlib.Core.List.{[], _∷_};
 ghost use Prim.Native.Nat.{_+_, _*_, _≤_};
 ghost use lib.ListN.{length, take};
+ghost use Rattle.terms.specs.HoleLaws.{lineOf};
 ghost use Rattle.spans.specs.Runs.{runs, hasLabel};
 ghost use Rattle.spans.specs.Code.{laid, To-write, Spans-written, To-step, Stepped};
 use terms::CUTS;
+use terms::Hole;
 use terms::INTERVALS;
 
 // Whether a span has begun, at which interval, and how many are written.
@@ -32,9 +34,10 @@ fn step(
     p: usize,
     has: bool,
     state: Progress,
+    hole: Hole,
 ) -> Progress
-    requires { ⌜ To-step (now spans) (now cuts) n p has state ⌝ }
-    ensures { λ r. ⌜ Stepped (take n (now (cuts .entry))) p has state (now (spans .entry)) (now (spans .exit)) r ⌝ }
+    requires { ⌜ To-step (lineOf hole) (now spans) (now cuts) n p has state ⌝ }
+    ensures { λ r. ⌜ Stepped (lineOf hole) (take n (now (cuts .entry))) p has state (now (spans .entry)) (now (spans .exit)) r ⌝ }
 {
     if !state.begun {
         return Progress {
@@ -46,8 +49,8 @@ fn step(
     if has {
         return state;
     }
-    let top = line::top_of(cuts, n, state.since);
-    let bottom = line::bottom_of(cuts, n, p - 1);
+    let top = line::top_from(cuts, n, state.since, hole.top());
+    let bottom = line::bottom_to(cuts, n, p - 1, hole.bottom());
     put_pair(spans, state.count, top, bottom);
     Progress {
         begun: has,
@@ -56,7 +59,7 @@ fn step(
     }
 }
 
-// Writes the spans of an item's label, and gives how many there are.
+// Writes the spans of an item's label inside the hole, and gives how many there are.
 pub fn write_spans(
     spans: &mut [i32],
     labels: &[u64],
@@ -64,9 +67,10 @@ pub fn write_spans(
     label: usize,
     cuts: &[i32; CUTS],
     n: usize,
+    hole: Hole,
 ) -> usize
     requires { ⌜ To-write (now spans) (now labels) item label (now cuts) n ⌝ }
-    ensures { λ r. ⌜ Spans-written (runs (take n (now (cuts .entry))) (hasLabel (now (labels .entry)) item label)) (now (spans .entry))
+    ensures { λ r. ⌜ Spans-written (runs (lineOf hole) (take n (now (cuts .entry))) (hasLabel (now (labels .entry)) item label)) (now (spans .entry))
         (now (spans .exit)) r ⌝ }
 {
     let mut state = Progress {
@@ -77,9 +81,9 @@ pub fn write_spans(
     let mut p: usize = 0;
     while p <= n {
         let has = words::bit(labels[item * INTERVALS + p], label) == 1;
-        state = step(spans, cuts, n, p, has, state);
+        state = step(spans, cuts, n, p, has, state, hole);
         p += 1;
     }
-    state = step(spans, cuts, n, p, false, state);
+    state = step(spans, cuts, n, p, false, state, hole);
     state.count
 }

@@ -11,6 +11,7 @@ use Rattle.terms.specs.declared.Rule.{Rule}
 use Rattle.terms.specs.declared.Mark.{Mark}
 use Rattle.terms.specs.Tests.{of-true}
 use Rattle.terms.specs.Limits.{RULES, MARKS, DEPTHS}
+use Rattle.terms.specs.Holes.{liesIn}
 use Rattle.terms.specs.Held.{endsOf, isRule, isMark, isSettings}
 use Rattle.terms.specs.Places.{rulesIn}
 use Rattle.terms.specs.Same.{sameRule, sameMark}
@@ -49,8 +50,11 @@ module _ (s : State) (p : Counts-in s) where
   abbrev few : Bool
   few = leb (depthCount (endsOf marks)) DEPTHS
 
-  kept : limits (heldOf s) ≡
-      (few && (every isRule rules && (every isMark marks && (once sameRule rules && (once sameMark marks && isSettings (s .settings))))))
+  -- the settings, and the marks under them
+  abbrev settled : Bool
+  settled = isSettings (s .settings) && every (liesIn (s .settings .hole)) marks
+
+  kept : limits (heldOf s) ≡ (few && (every isRule rules && (every isMark marks && (once sameRule rules && (once sameMark marks && settled)))))
   unfolding limits
   kept =
       let n = rules-length (s .rules) (s .«rule_count») (omega arith) in
@@ -60,12 +64,12 @@ module _ (s : State) (p : Counts-in s) where
   module _ (r m : Bool) (rule-ranges : r ≡ every isRule rules) (mark-ranges : m ≡ every isMark marks) where
     pub out-of-range : not (r && m) ≡ true → false ≡ limits (heldOf s)
     out-of-range e =
-        outside few (every isRule rules) (every isMark marks) (once sameRule rules && (once sameMark marks && isSettings (s .settings)))
+        outside few (every isRule rules) (every isMark marks) (once sameRule rules && (once sameMark marks && settled))
         (rw (rule-ranges, mark-ranges) at e) ∙ sym kept
 
-    pub in-range : not (r && m) ≡ false → (few && ((once sameRule rules && once sameMark marks) && isSettings (s .settings))) ≡ limits (heldOf s)
+    pub in-range : not (r && m) ≡ false → (few && ((once sameRule rules && once sameMark marks) && settled)) ≡ limits (heldOf s)
     in-range e =
-        inside few (every isRule rules) (every isMark marks) (once sameRule rules) (once sameMark marks) (isSettings (s .settings))
+        inside few (every isRule rules) (every isMark marks) (once sameRule rules) (once sameMark marks) settled
         (rw (rule-ranges, mark-ranges) at e) ∙ sym kept
 
     pub marks-ranged : not (r && m) ≡ false → T (every isMark marks)

@@ -1,6 +1,6 @@
 -- What the tests come to, and what an operation then answers. Assumes nothing.
 use mathlib.Core.Path.{_≡_, refl, sym, ap, _∙_}
-use mathlib.Core.Bool.{Bool, true, false}
+use mathlib.Core.Bool.{Bool, true, false, not}
 use mathlib.Core.List.{List, [], _∷_, _++_}
 use Prim.Native.Nat.{ℕ, _<_}
 use native.Mathlib.Omega.{arith}
@@ -12,14 +12,15 @@ use Rattle.terms.specs.declared.Mark.{Mark}
 use Rattle.terms.specs.declared.Tested.{Tested}
 use Rattle.terms.specs.declared.Tested.the-variants as Tested
 use Rattle.terms.specs.Limits.{RULES, MARKS, DEPTHS}
-use Rattle.terms.specs.Held.{Held, endsOf}
+use Rattle.terms.specs.Holes.{liesIn}
+use Rattle.terms.specs.Held.{Held, holeIn, endsOf}
 use Rattle.terms.specs.Refusals.{Test, test, tested}
 use Rattle.terms.specs.Otherwise.{onTested}
 use Rattle.terms.specs.Same.{sameRule, sameMark}
 use Rattle.terms.specs.Lists.{some, depthCount}
 use Rattle.state.specs.declared.State.{State}
 use Rattle.state.specs.State.{Listed-as}
-use Rattle.state.specs.Changes.{ruleTests, putTests}
+use Rattle.state.specs.Changes.{ruleTests, roomTests, putTests}
 use Rattle.state.specs.Holding.{Holds}
 
 module _ (tests : List Test) (h then : Held) (t : Tested) (s : State) (e : t ≡ tested tests) where
@@ -41,7 +42,12 @@ room false false n most ts e z = leb-false most n e
 pub rule-room : (h : Held) (ρ : Rule) → tested (ruleTests h ρ) ≡ Tested.Passed → length (h .rules) < RULES
 rule-room h ρ z = room (some (sameRule ρ) (h .rules)) (leb RULES (length (h .rules))) (length (h .rules)) RULES [] refl z
 
+-- nor does what stands before them
+behind : (outside : Bool) (n : ℕ) (ts : List Test) → tested (test outside n ∷ ts) ≡ Tested.Passed → tested ts ≡ Tested.Passed
+behind true n ts z = absurd (clash n z)
+behind false n ts z = z
+
 pub put-room : (h : Held) (m : Mark) → tested (putTests h m) ≡ Tested.Passed → length (h .marks) < MARKS
 put-room h m z =
     room (some (sameMark m) (h .marks)) (leb MARKS (length (h .marks))) (length (h .marks)) MARKS
-    (test (ltb DEPTHS (depthCount (endsOf (h .marks ++ (m ∷ []))))) 12 ∷ []) refl z
+    (test (ltb DEPTHS (depthCount (endsOf (h .marks ++ (m ∷ []))))) 12 ∷ []) refl (behind (not (liesIn (holeIn h) m)) 16 (roomTests h m) z)

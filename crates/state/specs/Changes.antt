@@ -6,7 +6,8 @@ use lib.ListN.{length}
 use Rattle.terms.specs.declared.Rule.{Rule}
 use Rattle.terms.specs.declared.Mark.{Mark}
 use Rattle.terms.specs.Limits.{RULES, MARKS, DEPTHS}
-use Rattle.terms.specs.Held.{Held, endsOf, withRules, withMarks}
+use Rattle.terms.specs.Holes.{liesIn}
+use Rattle.terms.specs.Held.{Held, holeIn, endsOf, withRules, withMarks}
 use Rattle.terms.specs.Refusals.{Test, test}
 use Rattle.terms.specs.Same.{sameRule, sameMark}
 use Rattle.terms.specs.Lists.{some, strike, depthCount}
@@ -16,12 +17,16 @@ abbrev pub ruleTests : Held → Rule → List Test
 ruleTests h ρ = test (some (sameRule ρ) (h .rules)) 9 ∷ test (leb RULES (length (h .rules))) 11 ∷ []
 
 -- a mark to put, with 12 by 02, Slip 2: the ends of the held marks and the new one together are more than 96
-abbrev pub putTests : Held → Mark → List Test
-putTests h m =
+abbrev pub roomTests : Held → Mark → List Test
+roomTests h m =
     test (some (sameMark m) (h .marks)) 9
     ∷ test (leb MARKS (length (h .marks))) 11
     ∷ test (ltb DEPTHS (depthCount (endsOf (h .marks ++ (m ∷ []))))) 12
     ∷ []
+
+-- 02, Slip 5: before these, 16 for one that reaches outside the hole
+abbrev pub putTests : Held → Mark → List Test
+putTests h m = test (not (liesIn (holeIn h) m)) 16 ∷ roomTests h m
 
 -- a mark to take
 abbrev pub takeTests : Held → Mark → List Test
@@ -30,6 +35,10 @@ takeTests h m = test (not (some (sameMark m) (h .marks))) 10 ∷ []
 -- 02, Slip 4: kind 17 while a rule is held
 abbrev pub countTests : Held → List Test
 countTests h = test (ltb 0 (length (h .rules))) 15 ∷ []
+
+-- 02, Slip 5: kind 18 while a mark is held
+abbrev pub confineTests : Held → List Test
+confineTests h = test (ltb 0 (length (h .marks))) 17 ∷ []
 
 -- 01, The book: kinds 2 to 5 add their rule at the end of its list, kinds 6 and 7 their mark
 abbrev pub addRule : Held → Rule → Held

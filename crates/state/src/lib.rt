@@ -5,15 +5,17 @@ ghost use Prim.Native.Nat.{_+_, _-_, _≤_, _<_};
 ghost use lib.Dec.{T};
 ghost use lib.ListN.{take, drop};
 ghost use Rattle.terms.specs.Limits.{RULES, MARKS};
-ghost use Rattle.terms.specs.Held.{withCounting, isMark};
+ghost use Rattle.terms.specs.declared.Hole.the-variants as Bored;
+ghost use Rattle.terms.specs.Held.{withCounting, withHole, isMark};
 ghost use Rattle.terms.specs.Places.{Marks-named};
 ghost use Rattle.terms.specs.Lists.{limits};
 ghost use Rattle.terms.specs.Refusals.{tested as testedBy};
 ghost use Rattle.state.specs.State.{Counts-in, heldOf, emptyState, Listed-as};
-ghost use Rattle.state.specs.Changes.{ruleTests, putTests, takeTests, countTests, addRule, putMark, takeMark};
+ghost use Rattle.state.specs.Changes.{ruleTests, roomTests, putTests, takeTests, countTests, confineTests, addRule, putMark, takeMark};
 ghost use Rattle.state.specs.Holding.{Holds};
 use terms::Counting;
 use terms::DEPTHS;
+use terms::Hole;
 use terms::MARKS;
 use terms::Mark;
 use terms::RULES;
@@ -114,12 +116,12 @@ impl State {
         }
     }
 
-    // The tests of a mark to put.
-    fn put_tested(self, mark: Mark) -> Tested
+    // The tests of a mark to put, among the held ones.
+    fn room_tested(self, mark: Mark) -> Tested
         requires { ⌜ Counts-in self ⌝ }
         requires { ⌜ Marks-named (self .marks) (self .«mark_count») ⌝ }
         requires { ⌜ T (isMark mark) ⌝ }
-        ensures { λ r. ⌜ r ≡ testedBy (putTests (heldOf self) mark) ⌝ }
+        ensures { λ r. ⌜ r ≡ testedBy (roomTests (heldOf self) mark) ⌝ }
     {
         let marks = self.marks;
         let count = self.mark_count;
@@ -135,6 +137,21 @@ impl State {
             return Tested::Refused(12);
         }
         Tested::Passed
+    }
+
+    // Before them, that it does not reach outside the hole.
+    fn put_tested(self, mark: Mark) -> Tested
+        requires { ⌜ Counts-in self ⌝ }
+        requires { ⌜ Marks-named (self .marks) (self .«mark_count») ⌝ }
+        requires { ⌜ T (isMark mark) ⌝ }
+        ensures { λ r. ⌜ r ≡ testedBy (putTests (heldOf self) mark) ⌝ }
+    {
+        let settings = self.settings;
+        let hole = settings.hole;
+        if mark.lies_in(hole) {
+            return self.room_tested(mark);
+        }
+        Tested::Refused(16)
     }
 
     fn add_mark(self, mark: Mark) -> State
@@ -207,7 +224,9 @@ impl State {
                 state: self,
             };
         }
-        let settings = Settings { counting };
+        let held = self.settings;
+        let hole = held.hole;
+        let settings = Settings { counting, hole };
         let mut state = self;
         state.settings = settings;
         Listed {
@@ -216,8 +235,35 @@ impl State {
         }
     }
 
-    // What the lists and settings keep: each rule and mark in range, few enough depths, none twice, and settings that there are. The ranges
-    // come first: the keys tell apart marks that are in range.
+    // The hole set, where no mark is held: none may lie outside it.
+    pub fn confine(self, top: i32, bottom: i32) -> Listed
+        requires { ⌜ Counts-in self ⌝ }
+        ensures { λ r. ⌜ Listed-as (confineTests (heldOf self)) (heldOf self) (withHole (heldOf self) (Bored.Part top bottom)) r ⌝ }
+    {
+        let marks_held = self.mark_count;
+        if 0 < marks_held {
+            return Listed {
+                tested: Tested::Refused(17),
+                state: self,
+            };
+        }
+        let before = self.settings;
+        let counting = before.counting;
+        let bored = Hole::Part(top, bottom);
+        let settings = Settings {
+            counting,
+            hole: bored,
+        };
+        let mut state = self;
+        state.settings = settings;
+        Listed {
+            tested: Tested::Passed,
+            state,
+        }
+    }
+
+    // What the lists and settings keep: each rule and mark in range, few enough depths, none twice, settings that there are, and no mark
+    // outside the hole. The ranges come first: the keys tell apart marks that are in range.
     pub fn within_limits(self) -> bool
         requires { ⌜ Counts-in self ⌝ }
         ensures { λ r. ⌜ r ≡ limits (heldOf self) ⌝ }
@@ -234,6 +280,8 @@ impl State {
         }
         let few = scans::depth_count(marks, mark_count) <= DEPTHS;
         let once = scans::rules_once(rules, rule_count) & scans::marks_once(marks, mark_count);
-        few & (once & settings.in_range())
+        let hole = settings.hole;
+        let inside = scans::marks_inside(marks, mark_count, hole);
+        few & (once & (settings.in_range() & inside))
     }
 }

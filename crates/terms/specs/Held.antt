@@ -1,5 +1,5 @@
 -- What is held, and the ranges of what can be.
-use mathlib.Core.Bool.{Bool, true, _&&_}
+use mathlib.Core.Bool.{Bool, _&&_}
 use mathlib.Core.List.{List, [], _∷_, List·Memᴰ}
 use lib.IntN.{ℤ}
 use lib.Signed.{_≤ℤ_, leZ}
@@ -14,21 +14,24 @@ use Rattle.terms.specs.declared.Question.{Question}
 use Rattle.terms.specs.declared.Question.the-variants as Question
 use Rattle.terms.specs.declared.Counting.{Counting}
 use Rattle.terms.specs.declared.Counting.the-variants.{Old}
+use Rattle.terms.specs.declared.Hole.{Hole}
+use Rattle.terms.specs.declared.Hole.the-variants.{Whole}
 use Rattle.terms.specs.declared.Settings.{Settings}
 use Rattle.terms.specs.Limits.{isItem, isKind, isLeft, isConcluded, isMarked, isLabel, isDepth}
 use Rattle.terms.specs.Operators.{isOperator}
+use Rattle.terms.specs.Holes.{isHole}
 
 infix 50 _∈_
 abbrev pub _∈_ : {X : Type 0} → X → List X → Type 0
 x ∈ xs = List·Memᴰ x xs
 
--- 01, The book: what RESET sets beside the lists; 02, Slip 4: it goes back to the old counting
+-- 01, The book: what RESET sets beside the lists; 02, Slips 4 and 5: it goes back to the old counting, and there is no hole
 abbrev pub freshSettings : Settings
-freshSettings = record { counting = Old }
+freshSettings = record { counting = Old; hole = Whole }
 
--- and what may be set: either counting
+-- and what may be set: either counting, and no hole or one within the range of marks, its top not deeper than its bottom
 abbrev pub isSettings : Settings → Bool
-isSettings s = true
+isSettings s = isHole (s .hole)
 
 -- 01, State and tables: the held rules and marks, in the order of putting, and the settings
 pub record Held : Type 0 where
@@ -47,7 +50,14 @@ abbrev pub countingIn : Held → Counting
 countingIn h = h .settings .counting
 
 abbrev pub withCounting : Held → Counting → Held
-withCounting h c = record { rules = h .rules; marks = h .marks; settings = record { counting = c } }
+withCounting h c = record { rules = h .rules; marks = h .marks; settings = record { counting = c; hole = h .settings .hole } }
+
+-- 02, Slip 5: the hole in force, and another set
+abbrev pub holeIn : Held → Hole
+holeIn h = h .settings .hole
+
+abbrev pub withHole : Held → Hole → Held
+withHole h H = record { rules = h .rules; marks = h .marks; settings = record { counting = h .settings .counting; hole = H } }
 
 -- 01, The book: both lists empty at first, and nothing set
 abbrev pub emptyHeld : Held

@@ -11,6 +11,7 @@ pub mod Answers
 pub mod Pairs
 pub mod Same
 pub mod SameLaws
+pub mod Holes
 pub mod Held
 pub mod Names
 pub mod Places
@@ -27,3 +28,5 @@ pub mod Sets
 pub mod Interpretations
 pub mod Entailed
 pub mod Spans
+pub mod HoleLaws
+pub mod Inside

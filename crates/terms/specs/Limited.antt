@@ -12,7 +12,8 @@ use Rattle.terms.specs.declared.Rule.{Rule}
 use Rattle.terms.specs.declared.Mark.{Mark}
 use Rattle.terms.specs.Tests.{and-both, both-and, or-one, or-left, or-right}
 use Rattle.terms.specs.Limits.{RULES, MARKS, DEPTHS}
-use Rattle.terms.specs.Held.{_∈_, Held, endsOf, isRule, isMark, isSettings}
+use Rattle.terms.specs.Holes.{isHole, liesIn}
+use Rattle.terms.specs.Held.{_∈_, Held, holeIn, endsOf, isRule, isMark, isSettings}
 use Rattle.terms.specs.Same.{sameRule, sameMark}
 use Rattle.terms.specs.Lists.{some, every, strike, once, depthCount, limits}
 
@@ -20,6 +21,8 @@ use Rattle.terms.specs.Lists.{some, every, strike, once, depthCount, lim
 pub record InRange (h : Held) : Type 0 where
   pub rules : (ρ : Rule) → ρ ∈ h .rules → T (isRule ρ)
   pub marks : (m : Mark) → m ∈ h .marks → T (isMark m)
+  pub hole : T (isHole (holeIn h))
+  pub inside : (m : Mark) → m ∈ h .marks → T (liesIn (holeIn h) m)
 
 -- ---- lists
 
@@ -119,6 +122,7 @@ pub record Limited (h : Held) : Type 0 where
   pub once-rules : T (once sameRule (h .rules))
   pub once-marks : T (once sameMark (h .marks))
   pub settings : T (isSettings (h .settings))
+  pub inside : T (every (liesIn (holeIn h)) (h .marks))
 
 pub limited : (h : Held) → T (limits h) → Limited h
 unfolding limits
@@ -129,7 +133,8 @@ limited h t =
     let d = and-both (every isRule (h .rules)) _ (c .1) in
     let e = and-both (every isMark (h .marks)) _ (d .1) in
     let f = and-both (once sameRule (h .rules)) _ (e .1) in
-    let g = and-both (once sameMark (h .marks)) (isSettings (h .settings)) (f .1) in
+    let g = and-both (once sameMark (h .marks)) _ (f .1) in
+    let i = and-both (isSettings (h .settings)) (every (liesIn (holeIn h)) (h .marks)) (g .1) in
     record {
       few-rules = leb→le (length (h .rules)) RULES (a .0);
       few-marks = leb→le (length (h .marks)) MARKS (b .0);
@@ -138,7 +143,8 @@ limited h t =
       marks = e .0;
       once-rules = f .0;
       once-marks = g .0;
-      settings = g .1;
+      settings = i .0;
+      inside = i .1;
     }
 
 pub of-limited : (h : Held) → Limited h → T (limits h)
@@ -150,7 +156,13 @@ of-limited h w =
     (both-and (every isRule (h .rules)) _ (w .rules)
     (both-and (every isMark (h .marks)) _ (w .marks)
     (both-and (once sameRule (h .rules)) _ (w .once-rules)
-    (both-and (once sameMark (h .marks)) (isSettings (h .settings)) (w .once-marks) (w .settings)))))))
+    (both-and (once sameMark (h .marks)) _ (w .once-marks)
+    (both-and (isSettings (h .settings)) (every (liesIn (holeIn h)) (h .marks)) (w .settings) (w .inside))))))))
 
 pub in-range : (h : Held) → Limited h → InRange h
-in-range h w = record { rules = λ ρ m. every-in isRule (h .rules) (w .rules) ρ m; marks = λ k m. every-in isMark (h .marks) (w .marks) k m }
+in-range h w = record {
+  rules = λ ρ m. every-in isRule (h .rules) (w .rules) ρ m;
+  marks = λ k m. every-in isMark (h .marks) (w .marks) k m;
+  hole = w .settings;
+  inside = λ k m. every-in (liesIn (holeIn h)) (h .marks) (w .inside) k m;
+}

@@ -90,6 +90,6 @@ isMarked A = ltb EVERY A && ltb A NEVER
 abbrev pub isLabel : ℕ → Bool
 isLabel A = ltb A LABELS
 
--- a mark's depth
+-- a mark's depth, or an end of 02's hole
 abbrev pub isDepth : ℤ → Bool
 isDepth i = leZ SHALLOWEST i && leZ i DEEPEST

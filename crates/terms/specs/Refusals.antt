@@ -8,7 +8,7 @@ use Rattle.terms.specs.declared.Tested.the-variants as Tested
 
 -- 01, Where a record is turned away: the numbers in the order in which they are judged, with 02's where 02 puts them
 abbrev pub order : List ℕ
-order = 1 ∷ 2 ∷ 3 ∷ 4 ∷ 5 ∷ 6 ∷ 7 ∷ 15 ∷ 8 ∷ 14 ∷ 9 ∷ 10 ∷ 11 ∷ 12 ∷ []
+order = 1 ∷ 2 ∷ 3 ∷ 4 ∷ 5 ∷ 6 ∷ 7 ∷ 15 ∷ 8 ∷ 14 ∷ 16 ∷ 17 ∷ 9 ∷ 10 ∷ 11 ∷ 12 ∷ []
 
 abbrev pub rankIn : List ℕ → ℕ → ℕ
 rankIn [] n = 1
@@ -26,7 +26,7 @@ pub record Test : Type 0 where
 abbrev pub test : Bool → ℕ → Test
 test b n = record { applies = b; number = n }
 
--- 01, Where a record is turned away: the lowest number that applies, the first since the rows ascend by rank
+-- 01, Where a record is turned away: the lowest number that applies, by rank, which is the first, since the rows ascend
 abbrev pub tested : List Test → Tested
 tested [] = Tested.Passed
 tested (t ∷ ts) = cond (t .applies) (Tested.Refused (t .number)) (tested ts)

@@ -2,6 +2,7 @@
 ghost use mathlib.Core.Path.{_≡_};
 ghost use mathlib.Core.Bool.{cond};
 ghost use lib.Dec.{T, eqb};
+ghost use lib.Signed.{leZ};
 ghost use Rattle.terms.specs.Limits.{isItem, isKind, isLeft, isConcluded, isMarked, isLabel, isDepth};
 ghost use Rattle.terms.specs.Stated.{stated};
 ghost use Rattle.terms.specs.Otherwise.{orElse, readTested};
@@ -10,6 +11,8 @@ ghost use Rattle.terms.specs.Operators.{readIf, isDistance, operatorOf, 
 ghost use Rattle.terms.specs.Countings.{bound, isCounting, countingOf};
 ghost use Rattle.terms.specs.Counted.{counted, countedRule};
 ghost use Rattle.terms.specs.Answers.{numberOf, valueOf};
+ghost use Rattle.terms.specs.Holes.{isInside, isHole, liesIn};
+ghost use Rattle.terms.specs.HoleLaws.{isCut, lineOf};
 ghost use Rattle.terms.specs.Held.{operatorIn, isSettings, isNamed, isRule, isMarkable, isStatement, isPlaced, isOrdered, isMark, isQuestion};
 
 pub const ITEMS: u8 = 16;
@@ -441,6 +444,77 @@ impl Question {
     }
 }
 
+// An end of 32 bits is at or above a depth of 64.
+pub fn at_or_above(end: i32, depth: i64) -> bool
+    ensures { λ r. ⌜ r ≡ leZ end depth ⌝ }
+{
+    (end as i64) <= depth
+}
+
+// And at or below it.
+pub fn at_or_below(end: i32, depth: i64) -> bool
+    ensures { λ r. ⌜ r ≡ leZ depth end ⌝ }
+{
+    depth <= (end as i64)
+}
+
+// Which depths exist: all, where there is no hole, or those from a top to a bottom.
+pub enum Hole {
+    Whole,
+    Part(i32, i32),
+}
+
+impl Hole {
+    // The depth exists.
+    pub fn contains(self, depth: i64) -> bool
+        ensures { λ r. ⌜ r ≡ isInside self depth ⌝ }
+    {
+        match self {
+            Hole::Whole => true,
+            Hole::Part(top, bottom) => at_or_above(top, depth) & at_or_below(bottom, depth),
+        }
+    }
+
+    // The depth and the one above it exist, so that a cut may part them.
+    pub fn is_parted(self, cut: i32) -> bool
+        ensures { λ r. ⌜ r ≡ isCut self cut ⌝ }
+    {
+        match self {
+            Hole::Whole => true,
+            Hole::Part(top, bottom) => (top < cut) & (cut <= bottom),
+        }
+    }
+
+    // The shallowest depth that exists; the number for no end where there is none.
+    pub fn top(self) -> i32
+        ensures { λ r. ⌜ r ≡ lineOf self .top ⌝ }
+    {
+        match self {
+            Hole::Whole => NO_TOP,
+            Hole::Part(top, _) => top,
+        }
+    }
+
+    // The deepest depth that exists; the number for no end where there is none.
+    pub fn bottom(self) -> i32
+        ensures { λ r. ⌜ r ≡ lineOf self .bottom ⌝ }
+    {
+        match self {
+            Hole::Whole => NO_BOTTOM,
+            Hole::Part(_, bottom) => bottom,
+        }
+    }
+
+    pub fn in_range(self) -> bool
+        ensures { λ r. ⌜ r ≡ isHole self ⌝ }
+    {
+        match self {
+            Hole::Whole => true,
+            Hole::Part(top, bottom) => (is_depth(top) & is_depth(bottom)) & (top <= bottom),
+        }
+    }
+}
+
 // A statement from a top to a bottom depth, true at each from one to the other.
 pub struct Mark {
     pub atom: Atom,
@@ -476,23 +550,33 @@ impl Mark {
         let atom = self.atom;
         atom.is_markable() & (self.is_placed() & self.is_ordered())
     }
+
+    // It does not reach outside the hole.
+    pub fn lies_in(self, hole: Hole) -> bool
+        ensures { λ r. ⌜ r ≡ liesIn hole self ⌝ }
+    {
+        hole.contains(self.top as i64) & hole.contains(self.bottom as i64)
+    }
 }
 
 // What records set until RESET beside the lists.
 pub struct Settings {
     pub counting: Counting,
+    pub hole: Hole,
 }
 
 impl Settings {
     // What RESET sets.
     pub const FRESH: Settings = Settings {
         counting: Counting::Old,
+        hole: Hole::Whole,
     };
 
     pub fn in_range(self) -> bool
         ensures { λ r. ⌜ r ≡ isSettings self ⌝ }
     {
-        true
+        let hole = self.hole;
+        hole.in_range()
     }
 }
 

@@ -1,6 +1,7 @@
 //! Writes stored test inputs of the program and what it has to print.
 //! `corpus wells FOLDER`: a hundred wells with points, fifty with points and stretches behind them,
-//! and thirty whose rule lists name a counting; `corpus limits FOLDER`: inputs at the size limit.
+//! thirty whose rule lists name a counting, and thirty that are holes with two ends;
+//! `corpus limits FOLDER`: inputs at the size limit.
 
 mod limits;
 mod well;
@@ -10,11 +11,13 @@ use model::listing::{listing, MAX_INPUT};
 use std::path::Path;
 use well::{Size, Well};
 
-const WELLS: u64 = 180;
+const WELLS: u64 = 210;
 /// From this well on a caliper gives stretches.
 const CALIPER: u64 = 100;
 /// From this well on rule lists name a counting, and there are two sections at least.
 const COUNTINGS: u64 = 150;
+/// From this well on sections are drilled in a hole with two ends.
+const HOLES: u64 = 180;
 
 /// From a few marks to full lists; each tenth well goes over its limits.
 fn size(number: u64) -> Size {
@@ -38,6 +41,7 @@ fn size(number: u64) -> Size {
             false => dice.pick(&[20, 50, 80]),
         },
         countings,
+        holes: number >= HOLES,
     };
     match large {
         8 => Size { deeper: 60, ..size },

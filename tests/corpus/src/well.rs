@@ -1,6 +1,7 @@
 //! A well as a stream of records: rules, then a drilled section with questions in between. Where a
 //! caliper runs, marks are points and stretches, by the old kinds and the new ones. Where rule lists
-//! name a counting, it is set before them; among the marks it is too late.
+//! name a counting, it is set before them; among the marks it is too late. Where the hole has two
+//! ends, they are given before the marks, which may go on past its bottom.
 
 use dice::Dice;
 use model::frame::{bytes, framed, wide_bytes};
@@ -52,12 +53,16 @@ pub struct Size {
     pub stretches: u64,
     /// Whether rule lists name a counting; nothing of it is drawn where they don't.
     pub countings: bool,
+    /// Whether the hole has two ends; nothing of it is drawn where it hasn't.
+    pub holes: bool,
 }
 
 pub struct Well {
     dice: Dice,
     size: Size,
     depth: i64,
+    /// The hole that was given last, whether it was taken or not.
+    hole: (i32, i32),
     marks: Vec<Mark>,
     stream: Vec<u8>,
 }
@@ -91,6 +96,7 @@ impl Well {
             dice,
             size,
             depth,
+            hole: (SHALLOWEST, DEEPEST),
             marks: Vec::new(),
             stream: Vec::new(),
         }
@@ -126,8 +132,16 @@ impl Well {
             self.send(Record::Reset);
             self.marks.clear();
         }
+        // Behind the counting there may be marks already, and then it is too late for a hole.
+        let late = self.size.holes && self.dice.percent(20);
+        if self.size.holes && !late {
+            self.give_holes();
+        }
         if self.size.countings {
             self.set_counting();
+        }
+        if late {
+            self.give_holes();
         }
         self.rules();
         if self.size.countings {
@@ -145,6 +159,34 @@ impl Well {
         let named: [&[u8]; 7] = [&[], &[1], &[2], &[2], &[1, 2], &[2, 2, 1], &[2, 3]];
         let named = self.dice.pick(&named);
         named.iter().for_each(|&value| self.send(counting(value)));
+    }
+
+    /// One hole after the other, the last of which counts, or none. It begins at the bit or above
+    /// and ends behind the section's last mark or before.
+    fn give_holes(&mut self) {
+        let (bit, step) = (self.depth as i32, self.size.step as i32);
+        let above = bit - self.dice.pick(&[0, 1, 100, 900]);
+        let far = bit + 2_000 + (self.size.marks * self.size.deeper) as i32 * step / 200;
+        let near = bit + 1_200 + self.dice.between(0, self.size.step) as i32;
+        let (above, far) = (above.max(SHALLOWEST), far.min(DEEPEST));
+        let last = (above, self.dice.pick(&[near, far, far]).min(DEEPEST));
+        let given: [&[(i32, i32)]; 7] = [
+            &[],
+            &[last],
+            &[last],
+            &[last, last],
+            &[(bit, bit), last],
+            &[(last.1 + 1, last.0), (SHALLOWEST, DEEPEST), last],
+            &[(last.0, DEEPEST + 1), (SHALLOWEST, DEEPEST)],
+        ];
+        let given = self.dice.pick(&given);
+        given.iter().for_each(|&ends| self.give(ends));
+        self.send(spans(0, EVERY));
+    }
+
+    fn give(&mut self, (top, bottom): (i32, i32)) {
+        self.send(hole(top, bottom));
+        self.hole = (top, bottom);
     }
 
     /// The same seen again as far down as its rule reaches, or one more or less, and asked about
@@ -250,10 +292,11 @@ impl Well {
     /// Something that is turned away, most often for what it says.
     fn mistake(&mut self) {
         let mark = self.dice.pick(&self.marks);
-        let sorts = match (self.caliper(), self.size.countings) {
-            (false, _) => 7,
-            (true, false) => 14,
-            (true, true) => 18,
+        let sorts = match (self.caliper(), self.size.countings, self.size.holes) {
+            (false, _, _) => 7,
+            (true, false, _) => 14,
+            (true, true, false) => 18,
+            (true, true, true) => 24,
         };
         match self.dice.below(sorts) {
             0 => self.send(Record::Put(mark)),
@@ -287,10 +330,25 @@ impl Well {
         match sort {
             14 | 15 => self.send(counting(known)),
             16 => self.send(counting(unknown)),
-            _ => {
+            17 => {
                 let body = vec![known; self.dice.pick(&[0, 2])];
                 self.stream.extend(framed(17, &body));
             }
+            sort => self.hole_mistake(sort),
+        }
+    }
+
+    /// A hole among the marks, what is none, or a mark that reaches out of it.
+    fn hole_mistake(&mut self, sort: u64) {
+        let (top, bottom) = self.hole;
+        let fact = self.observed();
+        match sort {
+            18 => self.send(hole(top, bottom)),
+            19 => self.send(hole(bottom + 1, bottom)),
+            20 => self.send(hole(top, DEEPEST + 1)),
+            21 => self.send(put_from_to(fact, top - 1, top)),
+            22 => self.send(put_from_to(fact, bottom, bottom.saturating_add(1))),
+            _ => self.send(take(fact, bottom.saturating_add(1))),
         }
     }
 
@@ -343,5 +401,20 @@ impl Well {
         let asked = (0..items).flat_map(|item| labels.map(|label| spans(item, label)));
         asked.for_each(|record| self.send(record));
         (0..8).for_each(|_| self.question());
+        if self.size.holes {
+            self.ask_at_ends();
+        }
+    }
+
+    /// What is there at the hole's ends and directly outside.
+    fn ask_at_ends(&mut self) {
+        let (top, bottom) = (i64::from(self.hole.0), i64::from(self.hole.1));
+        let item = self.item();
+        for depth in [top - 1, top, bottom, bottom + 1] {
+            let label = self.dice.pick(&[CASED, WET, SEALED]);
+            self.send(query(has(item, EVERY), depth));
+            self.send(query(has(item, label), depth));
+        }
+        self.send(spans(item, EVERY));
     }
 }

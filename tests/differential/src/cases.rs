@@ -1,46 +1,54 @@
-//! Cases with stretches and with countings that a run has to meet, each by its name.
+//! Cases with stretches and with countings that a run has to meet, each by its name; those with
+//! holes stand in `hole_cases.rs`.
 
-use crate::distance::{starts, Start};
-use model::block::{read, COUNTING_AT};
+use crate::distance::{near_starts, Start};
+use model::block::{read, COUNTING_AT, RULES_AT};
 use model::derive::Collection;
 use model::frame;
 use model::held::Held;
 use model::terms::Counting::{New, Old};
 use model::terms::*;
 
-const DONE: Answer = Answer::Done;
+pub const DONE: Answer = Answer::Done;
 
 /// A record call: the lists before it, the record if one could be read, and the answer.
 pub struct Seen {
     /// What the block's places show, whether records lead to it or not.
-    shown: Held,
-    /// The block's byte for the counting, whatever it is.
-    counting_byte: u8,
+    pub shown: Held,
+    /// The block's bytes before the places, whatever they are.
+    pub header: Vec<u8>,
     length: u16,
     kind: u16,
-    record: Option<Record>,
-    answer: Answer,
+    pub record: Option<Record>,
+    pub answer: Answer,
+    /// The numbers that an answer of spans wrote.
+    pub written: Vec<i32>,
 }
 
 impl Seen {
-    pub fn new(block: &[u8], input: &[u8], answer: Answer) -> Seen {
+    pub fn new(block: &[u8], input: &[u8], answer: Answer, spans: &[i32]) -> Seen {
         let frame = frame::split(input).ok();
+        let written = match answer {
+            Answer::Spans(count) => 2 * count as usize,
+            _ => 0,
+        };
         Seen {
             shown: read(block).unwrap_or_default(),
-            counting_byte: block[COUNTING_AT],
+            header: block[..RULES_AT].to_vec(),
             length: number_at(input, 0),
             kind: number_at(input, 2),
             record: frame.as_ref().map(frame::read),
             answer,
+            written: spans[..written].to_vec(),
         }
     }
 
     /// A put with that answer of a mark that fits.
-    fn put(&self, answer: Answer, fits: impl Fn(Mark) -> bool) -> bool {
+    pub fn put(&self, answer: Answer, fits: impl Fn(Mark) -> bool) -> bool {
         matches!(self.record, Some(Record::Put(mark)) if self.answer == answer && fits(mark))
     }
 
-    fn take(&self, answer: Answer, fits: impl Fn(Mark) -> bool) -> bool {
+    pub fn take(&self, answer: Answer, fits: impl Fn(Mark) -> bool) -> bool {
         matches!(self.record, Some(Record::Take(mark)) if self.answer == answer && fits(mark))
     }
 
@@ -99,7 +107,7 @@ impl Seen {
         })
     }
 
-    fn refused_length(&self, kind: u16, length: u16) -> bool {
+    pub fn refused_length(&self, kind: u16, length: u16) -> bool {
         let five = self.answer == Answer::Refused(5);
         five && self.kind == kind && self.length == length
     }
@@ -110,11 +118,11 @@ impl Seen {
         let Some(Record::Query(fact, depth)) = self.record else {
             return false;
         };
-        let concluding = || starts(&self.shown).filter(|start| start.concluded == fact);
+        let concluding = || near_starts(&self.shown).filter(|start| start.concluded == fact);
         let gap = |j: Start, k: Start| {
             let (bottom, top) = (i64::from(j.mark.bottom), i64::from(k.mark.top));
-            let same = j.mark.fact == k.mark.fact && j.n == k.n;
-            same && bottom < depth && depth < top && top - bottom == i64::from(j.n) + more
+            let same = j.mark.fact == k.mark.fact && j.op == k.op;
+            same && bottom < depth && depth < top && top - bottom == i64::from(j.op.n) + more
         };
         let mut firsts = concluding();
         self.shown.counting == counting
@@ -134,19 +142,24 @@ impl Seen {
         Collection::least(&held).of(fact).has(depth)
     }
 
+    /// A block that was not turned away.
+    pub fn good_block(&self) -> bool {
+        ![Answer::Refused(1), Answer::Refused(2)].contains(&self.answer)
+    }
+
     /// A block with rules, marks and the new counting that was not turned away.
     fn good_counting(&self) -> bool {
-        let turned_away = [Answer::Refused(1), Answer::Refused(2)].contains(&self.answer);
-        !turned_away && self.counting_byte == 1 && ruled(&self.shown) && marked(&self.shown)
+        let set = self.header[COUNTING_AT] == 1;
+        self.good_block() && set && ruled(&self.shown) && marked(&self.shown)
     }
 
     /// A block with rules in which nothing but the counting is wrong.
     fn bad_counting(&self) -> bool {
-        self.counting_byte > 1 && self.bad_block(|held| ruled(held) && held.reachable())
+        self.header[COUNTING_AT] > 1 && self.bad_block(|held| ruled(held) && held.reachable())
     }
 
     /// A refused block whose marks fit.
-    fn bad_block(&self, fits: impl Fn(&Held) -> bool) -> bool {
+    pub fn bad_block(&self, fits: impl Fn(&Held) -> bool) -> bool {
         self.answer == Answer::Refused(2) && fits(&self.shown)
     }
 
@@ -161,11 +174,11 @@ fn number_at(input: &[u8], at: usize) -> u16 {
     u16::from_le_bytes([byte(at), byte(at + 1)])
 }
 
-fn ruled(held: &Held) -> bool {
+pub fn ruled(held: &Held) -> bool {
     !held.rules.is_empty()
 }
 
-fn marked(held: &Held) -> bool {
+pub fn marked(held: &Held) -> bool {
     !held.marks.is_empty()
 }
 
@@ -200,7 +213,7 @@ fn nest(held: Mark, new: Mark) -> bool {
     held.top < new.top && new.bottom < held.bottom
 }
 
-type Case = (&'static str, fn(&Seen) -> bool);
+pub type Case = (&'static str, fn(&Seen) -> bool);
 
 pub const CASES: [Case; 44] = [
     ("stretch put", |s| s.put(DONE, stretch)),

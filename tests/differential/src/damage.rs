@@ -2,10 +2,12 @@
 
 use crate::source::{Source, EDGE_DEPTHS};
 use dice::Dice;
-use model::block::{mark_place, COUNTING_AT, MARKS_AT, MARK_PLACE, RULES_AT, RULE_PLACE, SIZE};
+use model::block::{hole_bytes, mark_place, read, COUNTING_AT, HOLE_AT, HOLE_ENDS_AT};
+use model::block::{MARKS_AT, MARK_PLACE, RULES_AT, RULE_PLACE, SIZE};
 use model::frame::{four, framed};
 use model::service::{Lent, Memory};
 use model::short::{from_to, has};
+use model::terms::{Hole, DEEPEST, SHALLOWEST};
 
 /// More than the least that is enough, so that tails can be watched.
 pub const WHOLE: Lent = Lent {
@@ -37,7 +39,7 @@ pub fn damage(dice: &mut Dice, mut bytes: Vec<u8>) -> Vec<u8> {
         1 => bytes.truncate(dice.below(size) as usize),
         2 => bytes[0] = dice.pick(&[0, 1, 2, 3, bytes[0] - 1, bytes[0] + 1, 255]),
         3 => bytes[1] = dice.pick(&[0, 1, 255]),
-        4 => bytes[2] = dice.pick(&[0, 6, 12, 13, 14, 15, 16, 17, 18, 255]),
+        4 => bytes[2] = dice.pick(&[0, 6, 12, 13, 14, 15, 16, 17, 18, 19, 255]),
         5 => bytes[3] = dice.pick(&[1, 2, 128, 255]),
         6 => bytes = framed(u16::from(bytes[2]), &bytes[4..bytes.len().max(5) - 1]),
         7 => bytes = framed(u16::from(bytes[2]), &[&bytes[4..], &[1]].concat()),
@@ -167,9 +169,51 @@ fn move_end(dice: &mut Dice, block: &mut [u8]) {
     block[at..at + 4].copy_from_slice(&end.to_le_bytes());
 }
 
-/// Changes the block: a byte, an end, a double, one mark more, the counting, or everything.
+/// Lays a hole over what is held: around all marks, with one end a depth too short, out of range,
+/// the wrong way round, or with its ends and no hole.
+fn lay_hole(dice: &mut Dice, block: &mut [u8]) {
+    let ends = read(block).unwrap_or_default().ends();
+    let least = ends.first().copied().unwrap_or(0);
+    let greatest = ends.last().copied().unwrap_or(0);
+    let more = dice.between(0, 9) as i32;
+    let choices = [
+        (least, greatest),
+        (least - more, greatest + more),
+        (least + 1, greatest + more),
+        (least - more, greatest - 1),
+        (greatest + more, least),
+        (SHALLOWEST - 1, greatest),
+        (least, DEEPEST + 1),
+        (SHALLOWEST, DEEPEST),
+        (0, 0),
+    ];
+    let (top, bottom) = dice.pick(&choices);
+    let laid = hole_bytes(Some(Hole { top, bottom }));
+    block[HOLE_AT..HOLE_AT + laid.len()].copy_from_slice(&laid);
+    block[HOLE_AT] = dice.pick(&[1, 1, 1, 1, 1, 0, 2]);
+}
+
+/// Lays a hole over a block from which all marks went, so that nothing but the hole can be wrong.
+fn bare_hole(dice: &mut Dice, block: &mut [u8]) {
+    block[2..4].fill(0);
+    block[MARKS_AT..SIZE].fill(0);
+    lay_hole(dice, block);
+}
+
+/// Changes a block's hole: whether there is one, the byte behind that, or its ends.
+fn spoil_hole(dice: &mut Dice, block: &mut [u8]) {
+    match dice.below(8) {
+        0 => block[HOLE_AT] = dice.pick(&[0, 1, 2, 255]),
+        1 => block[HOLE_AT + 1] = 1,
+        2 | 3 => bare_hole(dice, block),
+        4 => block[HOLE_ENDS_AT..HOLE_ENDS_AT + 8].rotate_left(4),
+        _ => lay_hole(dice, block),
+    }
+}
+
+/// Changes the block: a byte, an end, a double, one mark more, a setting, or everything.
 pub fn spoil(dice: &mut Dice, block: &mut [u8]) {
-    match dice.below(18) {
+    match dice.below(24) {
         0 => block.fill_with(|| dice.word() as u8),
         1 | 2 => double(dice, block),
         3 => block[..4].copy_from_slice(&[128, 0, 0, 1]),
@@ -178,6 +222,7 @@ pub fn spoil(dice: &mut Dice, block: &mut [u8]) {
         7 | 8 => move_end(dice, block),
         9 => block[some_mark(dice, block)] = dice.pick(&[0, 6, 7, 8, 13, 14]),
         10 | 11 => block[COUNTING_AT] = dice.pick(&[0, 1, 2, 255]),
+        12..=17 => spoil_hole(dice, block),
         _ => {
             let at = likely(dice, block);
             let now = block[at];

@@ -2,17 +2,17 @@
 
 use crate::source::Source;
 use model::held::Held;
-use model::terms::{Fact, Mark, Record, Rule, WITHIN};
+use model::terms::{Fact, Mark, Operator, Record, Rule, WITHIN};
 
-/// A mark from which a held WITHIN n starts, and what the rule concludes of it.
+/// A mark from which a held rule's operator starts, and what the rule concludes of it.
 #[derive(Clone, Copy)]
 pub struct Start {
     pub mark: Mark,
-    pub n: u32,
+    pub op: Operator,
     pub concluded: Fact,
 }
 
-/// What a rule with WITHIN concludes of the mark's fact, if it starts from that.
+/// What a rule with an operator concludes of the mark's fact, if it starts from that.
 fn start(rule: &Rule, mark: Mark) -> Option<Start> {
     let (op, concluded) = match (*rule, mark.fact) {
         (Rule::Label { op, a, b }, Fact::Label { item, label }) if a == label => {
@@ -23,29 +23,38 @@ fn start(rule: &Rule, mark: Mark) -> Option<Start> {
         }
         _ => return None,
     };
-    (op.code == WITHIN).then_some(Start {
+    Some(Start {
         mark,
-        n: op.n,
+        op,
         concluded,
     })
 }
 
-/// All held marks from which a held WITHIN starts, by rule.
+/// All held marks from which an operator of a held rule starts, by rule.
 pub fn starts(held: &Held) -> impl Iterator<Item = Start> + '_ {
     let of_rule = |rule| held.marks.iter().filter_map(move |&mark| start(rule, mark));
     held.rules.iter().flat_map(of_rule)
+}
+
+/// Those of a WITHIN alone.
+pub fn near_starts(held: &Held) -> impl Iterator<Item = Start> + '_ {
+    starts(held).filter(|start| start.op.code == WITHIN)
 }
 
 impl Source {
     /// Puts a second mark n - 1, n or n + 1 from one that a held WITHIN starts from, or asks what
     /// the rule concludes between them; none where no rule starts from a mark.
     pub fn apart(&mut self, held: &Held) -> Option<Record> {
-        let all: Vec<Start> = starts(held).collect();
+        let all: Vec<Start> = near_starts(held).collect();
         if all.is_empty() {
             return None;
         }
-        let Start { mark, n, concluded } = self.dice.pick(&all);
-        let distance = n as i32 + self.dice.pick(&[-1, 0, 1]);
+        let Start {
+            mark,
+            op,
+            concluded,
+        } = self.dice.pick(&all);
+        let distance = op.n as i32 + self.dice.pick(&[-1, 0, 1]);
         let more = self.dice.pick(&[0, 0, 1, 5]);
         let (above, below) = (mark.top - distance, mark.bottom + distance);
         let ends = self

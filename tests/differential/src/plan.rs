@@ -29,6 +29,12 @@ pub struct Plan {
     pub switches: u64,
     /// Records about two marks as far apart as a held WITHIN reaches, or one more or less.
     pub apart: u64,
+    /// Streams that start with a hole.
+    pub hole: u64,
+    /// Records that give a hole, or take a mark or reset so that one can be given.
+    pub digs: u64,
+    /// Records about the hole's ends and what lies beside them.
+    pub brinks: u64,
     pub never: u64,
     pub edge: u64,
     pub damage: u64,
@@ -56,6 +62,9 @@ fn small(dice: &mut Dice) -> Plan {
         new: 50,
         switches: 2,
         apart: 8,
+        hole: 40,
+        digs: 2,
+        brinks: 8,
         never: dice.pick(&[0, 0, 0, 4, 12]),
         edge: 2,
         damage: 1,
@@ -93,7 +102,7 @@ fn deep(dice: &mut Dice, plan: Plan) -> Plan {
     }
 }
 
-/// Points by the old kinds and the old counting alone.
+/// Points by the old kinds and the old counting alone, without a hole.
 fn points(plan: Plan) -> Plan {
     Plan {
         stretches: 0,
@@ -102,6 +111,8 @@ fn points(plan: Plan) -> Plan {
         wide: 0,
         new: 0,
         switches: 0,
+        hole: 0,
+        digs: 0,
         ..plan
     }
 }
@@ -113,6 +124,7 @@ fn long(plan: Plan) -> Plan {
         rules: 0,
         marks: 0,
         new: 0,
+        hole: 0,
         ..plan
     }
 }
@@ -142,9 +154,54 @@ fn counted(plan: Plan) -> Plan {
     }
 }
 
+/// Few marks, so that the hole can be changed, and many a record that tries to.
+fn digging(dice: &mut Dice, plan: Plan) -> Plan {
+    Plan {
+        calls: 80,
+        marks: dice.below(3),
+        digs: 40,
+        reversed: dice.pick(&[4, 25]),
+        edge: dice.pick(&[2, 20]),
+        damage: dice.pick(&[1, 20]),
+        ..plan
+    }
+}
+
+/// Few names and a hole, so that its ends decide most questions and marks.
+fn brinks(dice: &mut Dice, plan: Plan) -> Plan {
+    Plan {
+        items: 2,
+        labels: 4,
+        kinds: 1,
+        rules: 2 + plan.rules / 2,
+        marks: 1 + plan.marks / 4,
+        hole: 100,
+        brinks: 70,
+        reversed: dice.pick(&[4, 25]),
+        edge: dice.pick(&[0, 2, 10]),
+        ..plan
+    }
+}
+
+/// A hole full of marks, or of marked depths, with few rules.
+fn crowded(dice: &mut Dice, plan: Plan) -> Plan {
+    Plan {
+        items: 16,
+        labels: 20,
+        rules: plan.rules / 4,
+        // Depths that far apart are no neighbours, so that all 193 pieces come up.
+        width: dice.pick(&[200, 150_000, 150_000]),
+        marks: dice.pick(&[120, 255, 256]),
+        depths: dice.pick(&[40, 95, 96, 96]),
+        hole: 100,
+        brinks: 50,
+        ..plan
+    }
+}
+
 pub fn plan(dice: &mut Dice) -> Plan {
     let plan = small(dice);
-    match dice.below(23) {
+    match dice.below(30) {
         0..=1 => plan,
         2 => points(plan),
         3 | 4 => Plan {
@@ -175,7 +232,10 @@ pub fn plan(dice: &mut Dice) -> Plan {
             ..plan
         },
         19 => switching(dice, plan),
-        20 | 21 => counted(plan),
+        20..=22 => counted(plan),
+        23 => digging(dice, plan),
+        24..=26 => brinks(dice, plan),
+        27 | 28 => crowded(dice, plan),
         _ => full(dice, plan),
     }
 }

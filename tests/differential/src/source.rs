@@ -37,14 +37,14 @@ impl Source {
     }
 
     /// One of the edge values now and then, else the usual one.
-    fn or_edge<T: Copy>(&mut self, usual: T, edges: &[T]) -> T {
+    pub fn or_edge<T: Copy>(&mut self, usual: T, edges: &[T]) -> T {
         match self.dice.percent(self.plan.edge) {
             true => self.dice.pick(edges),
             false => usual,
         }
     }
 
-    fn item(&mut self) -> u8 {
+    pub fn item(&mut self) -> u8 {
         let usual = self.dice.below(self.plan.items.into()) as u8;
         self.or_edge(usual, &[0, 15, 16, 255])
     }
@@ -127,7 +127,7 @@ impl Source {
         }
     }
 
-    fn fact(&mut self, first: u8) -> Fact {
+    pub fn fact(&mut self, first: u8) -> Fact {
         match self.dice.percent(60) {
             true => Fact::Label {
                 item: self.item(),
@@ -177,7 +177,7 @@ impl Source {
     }
 
     /// Half of the questions are about what some rule concludes.
-    fn asked_fact(&mut self, held: &Held) -> Fact {
+    pub fn asked_fact(&mut self, held: &Held) -> Fact {
         let rule = self.rule_or_held(held, 100);
         let item = self.item();
         match (self.dice.below(2), rule) {
@@ -215,6 +215,12 @@ impl Source {
         if self.dice.percent(self.plan.switches) {
             return self.switch();
         }
+        if self.dice.percent(self.plan.digs) {
+            return self.dig(held);
+        }
+        if self.dice.percent(self.plan.brinks) {
+            return self.brink(held).unwrap_or_else(|| self.usual(held));
+        }
         match self.dice.percent(self.plan.apart) {
             true => self.apart(held).unwrap_or_else(|| self.usual(held)),
             false => self.usual(held),
@@ -251,11 +257,14 @@ impl Source {
         }
     }
 
-    /// Lists to start from, about as long as planned, with either counting.
+    /// Lists to start from, about as long as planned, with either counting, with a hole or without.
     pub fn held(&mut self) -> Held {
         let mut held = Held::default();
         if self.dice.percent(self.plan.new) {
             held.counting = Counting::New;
+        }
+        if self.dice.percent(self.plan.hole) {
+            held.hole = Some(self.hole());
         }
         let edge = std::mem::replace(&mut self.plan.edge, 0);
         let rules: Vec<_> = (0..self.plan.rules * 2).map(|_| self.rule()).collect();

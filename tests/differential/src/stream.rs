@@ -70,7 +70,7 @@ impl Stream {
         })?;
         tally.count(answer);
         if let Call::Record(input) = &call {
-            tally.see(&Seen::new(&before, input, answer));
+            tally.see(&Seen::new(&before, input, answer, &self.model.spans));
         }
         tally.nulls += u64::from(empty == Empty::Null && call.lends_nothing(&lent));
         if let Some(block) = kept {

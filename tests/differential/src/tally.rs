@@ -1,6 +1,7 @@
 //! How often each answer, each refusal and each case came up.
 
-use crate::cases::{Seen, CASES};
+use crate::cases::{Case, Seen, CASES};
+use crate::hole_cases::HOLE_CASES;
 use model::terms::{Answer, REFUSALS, REFUSAL_PLACES};
 
 const NAMES: [&str; 7] = [
@@ -24,6 +25,10 @@ pub struct Tally {
     cases: Vec<u64>,
 }
 
+fn all_cases() -> impl Iterator<Item = &'static Case> {
+    CASES.iter().chain(&HOLE_CASES)
+}
+
 /// Names with their numbers, parted by commas.
 fn listed<N: std::fmt::Display>(pairs: impl Iterator<Item = (N, u64)>) -> String {
     let pairs: Vec<_> = pairs.map(|(name, n)| format!("{name} {n}")).collect();
@@ -33,7 +38,7 @@ fn listed<N: std::fmt::Display>(pairs: impl Iterator<Item = (N, u64)>) -> String
 impl Tally {
     pub fn new() -> Tally {
         Tally {
-            cases: vec![0; CASES.len()],
+            cases: vec![0; all_cases().count()],
             ..Tally::default()
         }
     }
@@ -48,7 +53,7 @@ impl Tally {
     }
 
     pub fn see(&mut self, seen: &Seen) {
-        for ((_, fits), count) in CASES.iter().zip(&mut self.cases) {
+        for ((_, fits), count) in all_cases().zip(&mut self.cases) {
             *count += u64::from(fits(seen));
         }
     }
@@ -60,7 +65,7 @@ impl Tally {
     }
 
     fn cases(&self) -> impl Iterator<Item = (String, u64)> + '_ {
-        let names = CASES.iter().map(|(name, _)| format!("{name}:"));
+        let names = all_cases().map(|(name, _)| format!("{name}:"));
         names.zip(self.cases.iter().copied())
     }
 

@@ -2,10 +2,12 @@
 
 use crate::frame::{four, label_fact, link_fact, stretch};
 use crate::held::Held;
-use crate::terms::{Counting, Fact, Mark, Operator, Rule, MAX_MARKS, MAX_RULES};
+use crate::terms::{Counting, Fact, Hole, Mark, Operator, Rule, MAX_MARKS, MAX_RULES};
 
 pub const SIZE: usize = 4_128;
 pub const COUNTING_AT: usize = 4;
+pub const HOLE_AT: usize = 6;
+pub const HOLE_ENDS_AT: usize = 8;
 pub const RULES_AT: usize = 32;
 pub const MARKS_AT: usize = 1_056;
 pub const RULE_PLACE: usize = 8;
@@ -30,6 +32,13 @@ pub fn mark_place(mark: &Mark) -> Vec<u8> {
     [head, mark.top.to_le_bytes(), mark.bottom.to_le_bytes()].concat()
 }
 
+/// Bytes 6 to 15: whether there is a hole, a zero byte, and its ends.
+pub fn hole_bytes(hole: Option<Hole>) -> Vec<u8> {
+    let there = u8::from(hole.is_some());
+    let ends = hole.map_or([0, 0], |hole| hole.ends());
+    [&[there, 0][..], &ends.map(i32::to_le_bytes).concat()].concat()
+}
+
 pub fn encode(held: &Held) -> Vec<u8> {
     let rules: Vec<u8> = held.rules.iter().flat_map(rule_place).collect();
     let marks: Vec<u8> = held.marks.iter().flat_map(mark_place).collect();
@@ -40,6 +49,7 @@ pub fn encode(held: &Held) -> Vec<u8> {
         Counting::Old => 0,
         Counting::New => 1,
     };
+    block[HOLE_AT..HOLE_ENDS_AT + 8].copy_from_slice(&hole_bytes(held.hole));
     block[RULES_AT..RULES_AT + rules.len()].copy_from_slice(&rules);
     block[MARKS_AT..MARKS_AT + marks.len()].copy_from_slice(&marks);
     block
@@ -69,8 +79,16 @@ fn read_mark(place: &[u8]) -> Option<Mark> {
     Some(stretch(fact, &place[4..]))
 }
 
+fn read_hole(block: &[u8]) -> Option<Hole> {
+    let end = |at| i32::from_le_bytes(four(block, at));
+    (block[HOLE_AT] != 0).then(|| Hole {
+        top: end(HOLE_ENDS_AT),
+        bottom: end(HOLE_ENDS_AT + 4),
+    })
+}
+
 /// The lists as the places show them; none where a count or a place's kind is none. Any counting
-/// but 0 is read as the new one, and `decode` shows whether it is.
+/// but 0 is read as the new one, and any byte but 0 as a hole; `decode` shows whether they are.
 pub fn read(block: &[u8]) -> Option<Held> {
     let rules = usize::from(u16::from_le_bytes([block[0], block[1]]));
     let marks = usize::from(u16::from_le_bytes([block[2], block[3]]));
@@ -85,6 +103,7 @@ pub fn read(block: &[u8]) -> Option<Held> {
     };
     Some(Held {
         counting,
+        hole: read_hole(block),
         rules: rule_places.map(read_rule).collect::<Option<_>>()?,
         marks: mark_places.map(read_mark).collect::<Option<_>>()?,
     })

@@ -1,6 +1,6 @@
 //! Records as bytes: taking the first one off the input, reading its body, and writing one.
 
-use crate::terms::{Fact, Mark, Operator, Record, Rule};
+use crate::terms::{Fact, Hole, Mark, Operator, Record, Rule};
 
 pub struct Frame<'a> {
     pub kind: u16,
@@ -23,6 +23,7 @@ fn length_of(kind: u16) -> Option<usize> {
         11 | 14 | 16 => 13,
         12 => 4,
         17 => 3,
+        18 => 10,
         _ => return None,
     };
     Some(length)
@@ -91,6 +92,13 @@ pub fn stretch(fact: Fact, ends: &[u8]) -> Mark {
     }
 }
 
+fn hole(body: &[u8]) -> Hole {
+    Hole {
+        top: i32::from_le_bytes(four(body, 0)),
+        bottom: i32::from_le_bytes(four(body, 4)),
+    }
+}
+
 fn rule(kind: u16, body: &[u8]) -> Rule {
     let (x, y, z) = (body[0], body[1], body[2]);
     let operator = || Operator {
@@ -133,7 +141,8 @@ pub fn read(frame: &Frame) -> Record {
         14 => Record::Put(stretch(link_fact(body), &body[3..])),
         15 => Record::Take(stretch(label_fact(body), &body[2..])),
         16 => Record::Take(stretch(link_fact(body), &body[3..])),
-        _ => Record::Counting(body[0]),
+        17 => Record::Counting(body[0]),
+        _ => Record::Hole(hole(body)),
     }
 }
 
@@ -186,6 +195,7 @@ pub fn bytes(record: &Record) -> Vec<u8> {
         Record::Query(fact, depth) => fact_bytes(10, *fact, &depth.to_le_bytes()),
         Record::Spans { item, label } => framed(12, &[*item, *label]),
         Record::Counting(value) => framed(17, &[*value]),
+        Record::Hole(hole) => framed(18, &hole.ends().map(i32::to_le_bytes).concat()),
     }
 }
 

@@ -1,11 +1,14 @@
-//! The held rules and marks with the counting in force, and the refusals that look at them.
+//! The held rules and marks with the counting and the hole in force, and the refusals that look at
+//! them.
 
-use crate::terms::{Counting, Mark, Record, Rule, MAX_DEPTHS, MAX_MARKS, MAX_RULES};
+use crate::depths::Depths;
+use crate::terms::{Counting, Hole, Mark, Record, Rule, MAX_DEPTHS, MAX_MARKS, MAX_RULES};
 use std::collections::{BTreeSet, HashSet};
 
 #[derive(Clone, Debug, Default, PartialEq, Eq)]
 pub struct Held {
     pub counting: Counting,
+    pub hole: Option<Hole>,
     pub rules: Vec<Rule>,
     pub marks: Vec<Mark>,
 }
@@ -16,13 +19,27 @@ impl Held {
         self.marks.iter().flat_map(Mark::ends).collect()
     }
 
-    /// The first of refusals 15 and 9 to 12 that applies. Only kind 17 knows 15, and it has no depth
-    /// for 8 and 14, which are tested in between.
+    /// The depths that there are.
+    pub fn exist(&self) -> Depths {
+        match self.hole {
+            None => Depths::all(),
+            Some(hole) => Depths::run(hole.top.into(), hole.bottom.into()),
+        }
+    }
+
+    fn outside(&self, mark: &Mark) -> bool {
+        self.hole.is_some_and(|hole| !hole.holds(mark))
+    }
+
+    /// The first of refusals 15, 16, 17 and 9 to 12 that applies. Only kind 17 knows 15, and it has
+    /// no depth for 8 and 14, which are tested in between.
     pub fn refusal(&self, record: &Record) -> Option<u32> {
         match record {
             Record::Counting(_) => (!self.rules.is_empty()).then_some(15),
+            Record::Hole(_) => (!self.marks.is_empty()).then_some(17),
             Record::Rule(rule) if self.rules.contains(rule) => Some(9),
             Record::Rule(_) => (self.rules.len() >= MAX_RULES).then_some(11),
+            Record::Put(mark) if self.outside(mark) => Some(16),
             Record::Put(mark) => self.put_refusal(mark),
             Record::Take(mark) => (!self.marks.contains(mark)).then_some(10),
             _ => None,
@@ -49,12 +66,21 @@ impl Held {
             Record::Put(mark) => self.marks.push(*mark),
             Record::Take(mark) => self.marks.retain(|held| held != mark),
             Record::Counting(value) => self.counting = Counting::named(*value).expect("1 or 2"),
+            Record::Hole(hole) => self.hole = Some(*hole),
             Record::Query(..) | Record::Spans { .. } => {}
         }
     }
 
-    /// Whether records can lead to these lists: ranges, limits and no double. The counting is set
-    /// before the rules, so either goes with any lists.
+    /// No hole, or one that can be given, with all marks inside.
+    fn hole_in_order(&self) -> bool {
+        let given = self.hole.map(Record::Hole);
+        given.is_none_or(|record| record.refusal().is_none())
+            && !self.marks.iter().any(|mark| self.outside(mark))
+    }
+
+    /// Whether records can lead to these lists: ranges, limits, no double, and a hole, if there is
+    /// one, around all marks. The counting comes before the rules and the hole before the marks, so
+    /// either counting goes with any lists, and such a hole with any rules.
     pub fn reachable(&self) -> bool {
         let rules: HashSet<_> = self.rules.iter().collect();
         let marks: HashSet<_> = self.marks.iter().collect();
@@ -65,6 +91,7 @@ impl Held {
             && rules.len() <= MAX_RULES
             && marks.len() <= MAX_MARKS
             && self.ends().len() <= MAX_DEPTHS
+            && self.hole_in_order()
             && puts.all(|record| record.refusal().is_none())
             && learned.all(|record| record.refusal().is_none())
     }

@@ -69,6 +69,11 @@ pub fn counting(value: u8) -> Record {
     Record::Counting(value)
 }
 
+/// A hole from top to bottom, which need not be one.
+pub fn hole(top: i32, bottom: i32) -> Record {
+    Record::Hole(Hole { top, bottom })
+}
+
 /// Its last record puts a mark again.
 pub fn worked_example() -> [Record; 11] {
     [

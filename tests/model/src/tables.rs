@@ -11,14 +11,17 @@ pub const LABEL_ENTRIES: usize = 16 * PIECES;
 pub const LINK_ENTRIES: usize = 16 * 16 * PIECES;
 
 /// One depth for each piece, shallow to deep. A piece is a marked depth, which is an end of a
-/// mark, or starts behind one, but for the first, which ends before the least.
+/// mark, or starts behind one, but for the first, which ends before the least. In a hole the first
+/// starts at its top instead, and none starts outside.
 pub fn representatives(held: &Held) -> Vec<i64> {
     let marked: BTreeSet<i64> = held.ends().into_iter().map(i64::from).collect();
-    let first = marked.first().map_or(0, |least| least - 1);
+    let before = marked.first().map_or(0, |least| least - 1);
+    let first = held.hole.map_or(before, |hole| hole.top.into());
     let behind: BTreeSet<i64> = marked.iter().map(|depth| depth + 1).collect();
     let mut all = &marked | &behind;
     all.insert(first);
-    all.into_iter().collect()
+    let exist = held.exist();
+    all.into_iter().filter(|&depth| exist.has(depth)).collect()
 }
 
 /// Which pieces a set has, by their number.

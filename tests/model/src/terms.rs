@@ -1,4 +1,5 @@
-//! Names, limits, operators, countings, rules, marks, records and answers of the specification.
+//! Names, limits, operators, countings, rules, marks, holes, records and answers of the
+//! specification.
 //! The types hold any field value; `Record::refusal` says which of them are in range.
 
 pub const ITEMS: u8 = 16;
@@ -13,11 +14,11 @@ pub const MAX_N: u32 = 300_000;
 pub const SHALLOWEST: i32 = -10_000;
 pub const DEEPEST: i32 = 200_000;
 
-/// The refusal numbers in the order in which they are tested: 15 stands directly after 7, and 14
-/// directly after 8.
-pub const REFUSALS: [u32; 14] = [1, 2, 3, 4, 5, 6, 7, 15, 8, 14, 9, 10, 11, 12];
+/// The refusal numbers in the order in which they are tested: 15 stands directly after 7, and 14,
+/// 16 and 17 directly after 8.
+pub const REFUSALS: [u32; 16] = [1, 2, 3, 4, 5, 6, 7, 15, 8, 14, 16, 17, 9, 10, 11, 12];
 /// As many places as an array by refusal number needs.
-pub const REFUSAL_PLACES: usize = 16;
+pub const REFUSAL_PLACES: usize = 18;
 
 /// All ordered pairs of items.
 pub fn pairs() -> impl Iterator<Item = (u8, u8)> {
@@ -118,6 +119,24 @@ impl Mark {
     }
 }
 
+/// The depths that exist, where a record of kind 18 said so; both ends are among them.
+#[derive(Clone, Copy, Debug, PartialEq, Eq)]
+pub struct Hole {
+    pub top: i32,
+    pub bottom: i32,
+}
+
+impl Hole {
+    pub fn ends(&self) -> [i32; 2] {
+        [self.top, self.bottom]
+    }
+
+    /// Whether no depth of the mark, whose top is not the deeper end, lies outside.
+    pub fn holds(&self, mark: &Mark) -> bool {
+        self.top <= mark.top && mark.bottom <= self.bottom
+    }
+}
+
 #[derive(Clone, Copy, Debug, PartialEq, Eq)]
 pub enum Record {
     Reset,
@@ -127,6 +146,7 @@ pub enum Record {
     Query(Fact, i64),
     Spans { item: u8, label: u8 },
     Counting(u8),
+    Hole(Hole),
 }
 
 impl Record {
@@ -144,7 +164,7 @@ impl Record {
 
     fn names(&self) -> bool {
         match *self {
-            Record::Reset | Record::Counting(_) => true,
+            Record::Reset | Record::Counting(_) | Record::Hole(_) => true,
             Record::Rule(rule) => rule_names(rule),
             Record::Put(mark) | Record::Take(mark) => fact_names(mark.fact, 1, NEVER - 1),
             Record::Query(fact, _) => fact_names(fact, EVERY, NEVER),
@@ -161,20 +181,23 @@ impl Record {
         }
     }
 
+    /// The top and bottom that the record gives.
+    fn ends(&self) -> Option<[i32; 2]> {
+        match self {
+            Record::Put(mark) | Record::Take(mark) => Some(mark.ends()),
+            Record::Hole(hole) => Some(hole.ends()),
+            _ => None,
+        }
+    }
+
     fn depths(&self) -> bool {
         let in_range = |end: &i32| (SHALLOWEST..=DEEPEST).contains(end);
-        match self {
-            Record::Put(mark) | Record::Take(mark) => mark.ends().iter().all(in_range),
-            _ => true,
-        }
+        self.ends().iter().flatten().all(in_range)
     }
 
     /// No top deeper than its bottom.
     fn upright(&self) -> bool {
-        match self {
-            Record::Put(mark) | Record::Take(mark) => mark.top <= mark.bottom,
-            _ => true,
-        }
+        self.ends().is_none_or(|[top, bottom]| top <= bottom)
     }
 }
 

@@ -1,6 +1,8 @@
 //! Lent memory: the block's encoding, lists at their limits, and the order of refusals.
 
-use model::block::{decode, encode, COUNTING_AT, MARKS_AT, MARK_PLACE, RULES_AT, SIZE};
+use model::block::{
+    decode, encode, COUNTING_AT, HOLE_AT, HOLE_ENDS_AT, MARKS_AT, MARK_PLACE, RULES_AT, SIZE,
+};
 use model::frame::{bytes, framed};
 use model::held::Held;
 use model::service::{record, spans_of, Lent, Memory};
@@ -153,6 +155,9 @@ fn stray_bytes_are_seen() {
     held.marks.pop();
     let stray = [
         COUNTING_AT + 1,
+        HOLE_AT + 1,
+        HOLE_ENDS_AT,
+        HOLE_ENDS_AT + 8,
         31,
         RULES_AT + 7,
         MARKS_AT - 1,

@@ -1,7 +1,7 @@
 //! Streams as text: one record on a line, ` => ` and the answer that it must get.
 //! `name WORD NUMBER` gives an item, label or link kind a name; `#` starts a comment.
 //! A mark at one depth is put and taken by the kinds 6 to 9, `from TOP to BOTTOM` by 13 to 16;
-//! `counting NUMBER` is kind 17.
+//! `counting NUMBER` is kind 17, `hole from TOP to BOTTOM` kind 18.
 
 use model::frame::{bytes, wide_bytes};
 use model::short::*;
@@ -75,16 +75,21 @@ impl Line<'_> {
         }
     }
 
+    /// The words `from TOP to BOTTOM`.
+    fn ends(&mut self) -> Result<(i32, i32), String> {
+        self.expect("from")?;
+        let top = self.depth()?;
+        self.expect("to")?;
+        Ok((top, self.depth()?))
+    }
+
     /// A record about a mark, from its depths on.
     fn mark(&mut self, fact: Fact, record: fn(Mark) -> Record) -> Result<Vec<u8>, String> {
         if self.words.clone().next() != Some("from") {
             return Ok(bytes(&record(Mark::point(fact, self.depth()?))));
         }
-        self.expect("from")?;
-        let top = self.depth()?;
-        self.expect("to")?;
-        let mark = from_to(fact, top, self.depth()?);
-        Ok(wide_bytes(&record(mark)))
+        let (top, bottom) = self.ends()?;
+        Ok(wide_bytes(&record(from_to(fact, top, bottom))))
     }
 
     /// A record that is not about a mark.
@@ -99,6 +104,7 @@ impl Line<'_> {
             "querylink" => query(self.link()?, self.number()?),
             "spans" => spans(self.small()?, self.small()?),
             "counting" => counting(self.small()?),
+            "hole" => self.ends().map(|(top, bottom)| hole(top, bottom))?,
             other => return Err(format!("{other} is no record")),
         })
     }

@@ -2,6 +2,7 @@
 
 mod cases;
 mod countings;
+mod hole;
 mod script;
 mod stretches;
 
@@ -45,6 +46,16 @@ fn build() -> Script {
         countings::contradiction,
         countings::byte_of_the_block,
         countings::poked_counting,
+        cases::the_end,
+        hole::giving,
+        hole::refused,
+        hole::operators,
+        hole::links,
+        hole::marks,
+        hole::all_ends,
+        hole::contradiction,
+        hole::bytes_of_the_block,
+        hole::poked_hole,
         cases::the_end,
     ];
     cases.into_iter().for_each(|case| case(&mut script));

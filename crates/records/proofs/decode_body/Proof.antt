@@ -130,6 +130,12 @@ count-requires c κs =
     let start = c .before .before in
     omega (arith, sized (length (start .args .body .now)) (start .args .kind) 3 (start .pre) (ap lengthsOf (c .match .keys17)))
 
+confine-requires : tie.Need-confine-requires
+unfolding lengthsOf
+confine-requires c κs =
+    let start = c .before .before in
+    omega (arith, sized (length (start .args .body .now)) (start .args .kind) 10 (start .pre) (ap lengthsOf (c .match .keys18)))
+
 returns : tie.Need-returns
 unfolding bodyTests commandIn
 returns c = simp (c .match .keys1)
@@ -215,10 +221,15 @@ unfolding bodyTests commandIn
 returns-17 c = simp (c .before .match .keys17) (c .count .ensures)
 
 returns-18 : tie.Need-returns-18
+unfolding bodyTests commandIn
+returns-18 c = simp (c .before .match .keys18) (c .confine .ensures)
+
+returns-19 : tie.Need-returns-19
 unfolding lengthsOf
-returns-18 c =
+returns-19 c =
     let m = c .match .rest in
     absurd (simp (
+      ne-eqb _ _ (m .0 .0 .0 .0 .0 .0 .0 .0 .0 .0 .0 .0 .0 .0 .0 .0 .0 .1),
       ne-eqb _ _ (m .0 .0 .0 .0 .0 .0 .0 .0 .0 .0 .0 .0 .0 .0 .0 .0 .1),
       ne-eqb _ _ (m .0 .0 .0 .0 .0 .0 .0 .0 .0 .0 .0 .0 .0 .0 .0 .1),
       ne-eqb _ _ (m .0 .0 .0 .0 .0 .0 .0 .0 .0 .0 .0 .0 .0 .0 .1),
@@ -266,6 +277,7 @@ decode-body-spec =
     link-stretch-requires-2
     take-requires-4
     count-requires
+    confine-requires
     returns
     returns-2
     returns-3
@@ -283,4 +295,5 @@ decode-body-spec =
     returns-15
     returns-16
     returns-17
-    returns-18)
+    returns-18
+    returns-19)

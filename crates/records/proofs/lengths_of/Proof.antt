@@ -74,9 +74,14 @@ returns-17 c = simp (c .match .keys17)
 
 returns-18 : tie.Need-returns-18
 unfolding lengthsOf
-returns-18 c =
+returns-18 c = simp (c .match .keys18)
+
+returns-19 : tie.Need-returns-19
+unfolding lengthsOf
+returns-19 c =
     let m = c .match .rest in
     simp (
+      ne-eqb _ _ (m .0 .0 .0 .0 .0 .0 .0 .0 .0 .0 .0 .0 .0 .0 .0 .0 .0 .1),
       ne-eqb _ _ (m .0 .0 .0 .0 .0 .0 .0 .0 .0 .0 .0 .0 .0 .0 .0 .0 .1),
       ne-eqb _ _ (m .0 .0 .0 .0 .0 .0 .0 .0 .0 .0 .0 .0 .0 .0 .0 .1),
       ne-eqb _ _ (m .0 .0 .0 .0 .0 .0 .0 .0 .0 .0 .0 .0 .0 .0 .1),
@@ -117,4 +122,5 @@ lengths-of-spec =
     returns-15
     returns-16
     returns-17
-    returns-18)
+    returns-18
+    returns-19)

@@ -20,7 +20,7 @@ enum-told c = search needs
 read-off-requires : tie.Need-read-off-requires
 read-off-requires c κs =
     let derived = c .before .before .before .before .before .before .before .before .before .before .before .before in
-    let start = derived .before .before .before .before .before .before in
+    let start = derived .before .before .before .before .before .before .before in
     let cuts = derived .derive .ensures .cuts in
     let state = start .args .state in
     let H = start .pre .held-state in
@@ -44,7 +44,7 @@ returns : tie.Need-returns
 returns c =
     let clash = c .before .before .before in
     let derived = clash .before .before .before .before .before .before in
-    let start = derived .before .before .before .before .before .before in
+    let start = derived .before .before .before .before .before .before .before in
     contradictory (start .args .state) (start .pre .held-state) _ _ _ _ (derived .derive .ensures .tables) _ (clash .clash-in .ensures)
     (start .args .question) (start .pre .named) _ _ (c .before .item .given .1)
 
@@ -62,7 +62,7 @@ returns-2 c =
     let at-enum-told = c .before .before .before .before .before .before in
     let clash = at-enum-told .before .before in
     let derived = clash .before .before .before .before .before .before in
-    let start = derived .before .before .before .before .before .before in
+    let start = derived .before .before .before .before .before .before .before in
     plain (start .args .state) (start .pre .held-state) _ _ _ _ (derived .derive .ensures .tables) _ (clash .clash-in .ensures)
     (start .args .question) (start .pre .named) _ (at-enum-told .enum-told .given .1) _ _ (derived .derive .ensures .cuts) _ _
     (c .before .read-off .ensures)

@@ -3,6 +3,9 @@ use mathlib.Core.Path.{refl, ap, subst, _∙_}
 use mathlib.Core.List.{_++_}
 use lib.Dec.{T}
 use lib.ListN.{drop}
+use mir.Syntax.{w32}
+use mir.Val.{SFits}
+use mir.Facts.{toZ-ofZ}
 use Rattle.terms.specs.Held.{Held}
 use Rattle.state.specs.State.{heldOf}
 use Rattle.state.specs.Holding.{fresh-holds}
@@ -73,6 +76,15 @@ count-requires c κs = search needs
 keep-requires-4 : tie.Need-keep-requires-4
 keep-requires-4 c κs = search needs
 
+confine-requires : tie.Need-confine-requires
+confine-requires c κs = search needs
+
+keep-requires-5 : tie.Need-keep-requires-5
+keep-requires-5 c κs = search needs
+
+enum-known-command-6 : tie.Need-enum-known-command-6
+enum-known-command-6 c = search needs
+
 enum-known-command-5 : tie.Need-enum-known-command-5
 enum-known-command-5 c = search needs
 
@@ -85,7 +97,7 @@ answer-requires c κs =
       labels-long = room .labels;
       links-long = room .links;
       spans-long = room .spans;
-      named = subst (λ (x : Command). T (Proper x)) (c .before .before .before .before .command5 .given .1) (start .pre .1);
+      named = subst (λ (x : Command). T (Proper x)) (c .before .before .before .before .command6 .given .1) (start .pre .1);
     }
 
 same-length : tie.Need-same-length
@@ -153,8 +165,28 @@ returns-5 c =
     (heldOf (start .args .state)) _ _ (start .args .used) _ _ _ (c .before .before .before .count .ensures)
     (c .before .before .keep4 .ensures))
 
+-- the hole's two ends
+top-fits : (c : tie.After-known-told5) → SFits w32 (c .before .command5 .given .0 .0)
+top-fits c = search needs
+
+bottom-fits : (c : tie.After-known-told5) → SFits w32 (c .before .command5 .given .0 .1 .0)
+bottom-fits c = search needs
+
 same-length-6 : tie.Need-same-length-6
 same-length-6 c = search needs
+
+returns-6 : tie.Need-returns-6
+returns-6 c =
+    let command5 = c .before .before .before .before .before .before in
+    let start = command5 .before .before .before .before .before .before in
+    let known = command5 .command5 .given in
+    let told = c .before .before .before .before .before in
+    as-command (start .args .block .now) (start .args .labels .now) (start .args .links .now) (start .args .spans .now)
+    (heldOf (start .args .state)) (start .args .body .now) (start .args .used) (start .args .command) _ (known .1)
+    (changed (start .args .block .now) (start .args .labels .now) (start .args .links .now) (start .args .spans .now)
+    (heldOf (start .args .state)) _ _ (start .args .used) _ _ _
+    (rw (toZ-ofZ (top-fits told), toZ-ofZ (bottom-fits told)) at (c .before .before .before .confine .ensures))
+    (c .before .before .keep5 .ensures))
 
 same-length-7 : tie.Need-same-length-7
 same-length-7 c = search needs
@@ -162,13 +194,16 @@ same-length-7 c = search needs
 same-length-8 : tie.Need-same-length-8
 same-length-8 c = search needs
 
-returns-6 : tie.Need-returns-6
-returns-6 c =
+same-length-9 : tie.Need-same-length-9
+same-length-9 c = search needs
+
+returns-7 : tie.Need-returns-7
+returns-7 c =
     let answer = c .before .before .before .before .before in
-    let command5 = answer .before .before .before .before .before in
-    let start = command5 .before .before .before .before .before .before in
+    let command6 = answer .before .before .before .before .before in
+    let start = command6 .before .before .before .before .before .before in
     as-command (start .args .block .now) (start .args .labels .now) (start .args .links .now) (start .args .spans .now)
-    (heldOf (start .args .state)) (start .args .body .now) (start .args .used) (start .args .command) _ (command5 .command5 .given .1)
+    (heldOf (start .args .state)) (start .args .body .now) (start .args .used) (start .args .command) _ (command6 .command6 .given .1)
     (questioned (start .args .block .now) (start .args .labels .now) (start .args .links .now) (start .args .spans .now)
     (heldOf (start .args .state)) _ (start .args .used) _ _ _ _ (answer .answer .ensures))
 
@@ -193,6 +228,9 @@ work-spec =
     count-requires
     keep-requires-4
     enum-known-command-5
+    confine-requires
+    keep-requires-5
+    enum-known-command-6
     answer-requires
     same-length
     returns
@@ -205,6 +243,8 @@ work-spec =
     same-length-5
     returns-5
     same-length-6
+    returns-6
     same-length-7
     same-length-8
-    returns-6)
+    same-length-9
+    returns-7)

@@ -9,6 +9,7 @@ use lib.IntN.{ℤ}
 use lib.ListN.{length, take}
 use lib.Seq.{length-take-le}
 use Rattle.terms.specs.Limits.{CUTS, SPAN-NUMBERS}
+use Rattle.terms.specs.HoleLaws.{lineOf}
 use Rattle.spans.specs.Runs.{hasLabel}
 use Rattle.spans.specs.Code.{Written-so-far, To-step, endedAt, begunIn}
 use Rattle.spans.proofs.Steps.{none-written, fits-next, fits-last, written-next, written-last}
@@ -16,11 +17,11 @@ use Rattle.spans.proofs.write_spans.Statement.{statement}
 use Rattle.spans.proofs.write_spans.Tie as tie
 
 abbrev Inv-loop : tie.InvT-loop
-Inv-loop spans₀ labels item label cuts n state₀ p₀ spans state p =
-    (p ≤ n + 1) × (length spans ≡ length spans₀) × Written-so-far (take n cuts) (hasLabel labels item label) p state spans₀ spans
+Inv-loop spans₀ labels item label cuts n hole state₀ p₀ spans state p =
+    (p ≤ n + 1) × (length spans ≡ length spans₀) × Written-so-far (lineOf hole) (take n cuts) (hasLabel labels item label) p state spans₀ spans
 
 abbrev μ-loop : tie.MeasureT-loop
-μ-loop spans₀ labels item label cuts n state₀ p₀ spans state p = n + 1 - p
+μ-loop spans₀ labels item label cuts n hole state₀ p₀ spans state p = n + 1 - p
 
 -- at the loop's head
 module _ (c : tie.At-loop Inv-loop μ-loop) where
@@ -42,12 +43,14 @@ module _ (c : tie.At-loop Inv-loop μ-loop) where
   room : SPAN-NUMBERS ≤ length (c .loop .spans)
   room = omega (arith, c .loop .inv .1, start .pre .spans)
 
-  to-step : (h : Bool) → 2 * (c .loop .state .count + length (endedAt line (c .loop .p) h (begunIn (c .loop .state)))) ≤ length (c .loop .spans) →
-      To-step (c .loop .spans) (start .args .cuts .now) (start .args .n) (c .loop .p) h (c .loop .state)
+  to-step :
+      (h : Bool) →
+      2 * (c .loop .state .count + length (endedAt (lineOf (start .args .hole)) line (c .loop .p) h (begunIn (c .loop .state)))) ≤ length (c .loop .spans) →
+      To-step (lineOf (start .args .hole)) (c .loop .spans) (start .args .cuts .now) (start .args .n) (c .loop .p) h (c .loop .state)
   to-step h r = record { cuts = start .pre .cuts; low = start .pre .low; inside = c .loop .inv .0; begins = c .loop .inv .2 .begins; room = r }
 
 loop-holds : tie.Need-loop-holds Inv-loop μ-loop
-loop-holds c = (omega arith, refl, none-written _ _ _)
+loop-holds c = (omega arith, refl, none-written _ _ _ _)
 
 mul-bit : tie.Need-mul-bit Inv-loop μ-loop
 mul-bit c = omega (arith, start (c .before) .pre .item)
@@ -71,7 +74,7 @@ step-requires c κs =
     let l = c .before .before .before in
     rw (c .before .bit .ensures)
     (to-step (l .before) _
-    (fits-next _ _ _ _ _ _ (l .before .loop .inv .2) (few (l .before)) (room (l .before))
+    (fits-next _ _ _ _ _ _ _ (l .before .loop .inv .2) (few (l .before)) (room (l .before))
     (omega (arith, used (l .before), l .loop-test .taken))))
 
 add-p : tie.Need-add-p Inv-loop μ-loop
@@ -87,7 +90,7 @@ loop-again c =
       omega (arith, l .loop-test .taken),
       c .before .step .kept .0 ∙ h .loop .inv .1,
       rw (add-one (h .loop .p))
-          (written-next _ _ _ _ _ _ (h .loop .inv .2) _ _ (omega (arith, used h, l .loop-test .taken))
+          (written-next _ _ _ _ _ _ _ (h .loop .inv .2) _ _ (omega (arith, used h, l .loop-test .taken))
           (rw (c .before .before .before .bit .ensures) at (c .before .step .ensures))),
     )
 
@@ -98,7 +101,7 @@ passed c = omega (arith, used (c .before), c .loop-test .left, c .before .loop .
 step-requires-2 : tie.Need-step-requires-2 Inv-loop μ-loop
 step-requires-2 c κs =
     let l = c .before in
-    to-step (l .before) _ (fits-last _ _ _ _ _ _ (l .before .loop .inv .2) (few (l .before)) (room (l .before)) (passed l))
+    to-step (l .before) _ (fits-last _ _ _ _ _ _ _ (l .before .loop .inv .2) (few (l .before)) (room (l .before)) (passed l))
 
 same-length : tie.Need-same-length Inv-loop μ-loop
 same-length c = c .before .step2 .kept .0 ∙ c .before .before .before .before .loop .inv .1
@@ -106,7 +109,7 @@ same-length c = c .before .step2 .kept .0 ∙ c .before .before .before .before 
 returns : tie.Need-returns Inv-loop μ-loop
 returns c =
     let l = c .before .before .before in
-    written-last _ _ _ _ _ _ (l .before .loop .inv .2) _ _ (passed l) (c .before .step2 .ensures)
+    written-last _ _ _ _ _ _ _ (l .before .loop .inv .2) _ _ (passed l) (c .before .step2 .ensures)
 
 pub write-spans-spec : {M : Type 1} → statement M
 write-spans-spec =

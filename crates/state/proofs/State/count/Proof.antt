@@ -17,11 +17,11 @@ returns c =
 
 returns-2 : tie.Need-returns-2
 returns-2 c =
-    let start = c .before in
+    let start = c .before .before in
     let s = start .args .self in
     let p = start .pre in
     let n = rules-length (s .rules) (s .«rule_count») (omega arith) in
-    accepted-as _ _ _ Tested.Passed _ (sym (rw (n, le-ltb 0 (s .«rule_count») (c .if1 .left)))) refl
+    accepted-as _ _ _ Tested.Passed _ (sym (rw (n, le-ltb 0 (s .«rule_count») (c .before .if1 .left)))) refl
     (record {
       held = refl;
       counts = record {

@@ -31,16 +31,26 @@ marks-once-requires c κs =
     marks-named (start .args .self) (start .pre)
     (marks-ranged (start .args .self) (start .pre) _ _ (judged .before .rules-in-range .ensures) (judged .marks-in-range .ensures) (ranged .if1 .left))
 
+marks-inside-requires : tie.Need-marks-inside-requires
+marks-inside-requires c κs = search needs
+
 in-range-requires : tie.Need-in-range-requires
 in-range-requires c κs = search needs
 
 returns-2 : tie.Need-returns-2
 returns-2 c =
-    let counted = c .before .before .before in
+    let once = c .before .before in
+    let counted = once .before .before in
     let ranged = counted .before in
     let judged = ranged .before in
     let start = judged .before .before .before .before .before in
-    rw (counted .depth-count .ensures, c .before .before .rules-once .ensures, c .before .marks-once .ensures, c .in-range .ensures)
+    rw (
+      counted .depth-count .ensures,
+      once .before .rules-once .ensures,
+      once .marks-once .ensures,
+      c .before .marks-inside .ensures,
+      c .in-range .ensures,
+    )
     (in-range (start .args .self) (start .pre) _ _ (judged .before .rules-in-range .ensures) (judged .marks-in-range .ensures) (ranged .if1 .left))
 
 pub within-limits-spec : {M : Type 1} → statement M
@@ -53,5 +63,6 @@ within-limits-spec =
     depth-count-requires
     rules-once-requires
     marks-once-requires
+    marks-inside-requires
     in-range-requires
     returns-2)
