@@ -205,11 +205,11 @@ set-back :
     (s : List ℕ) (c : Counting) (H : Hole) → T (isHole H) → Stands MARK-BYTES s SETTINGS-AT (holeBytes (countingByte c) H) →
     settingsAt s ≡ record { counting = c; hole = H }
 set-back s c Whole g h =
-    settings-place s (countingByte c) 0 (pos 0) (pos 0) (record { sfits = omega arith }) (record { sfits = omega arith }) h
+    settings-place s (countingByte c) _ (pos 0) (pos 0) (record { sfits = omega arith }) (record { sfits = omega arith }) h
     ∙ ap (λ (x : Counting). record { counting = x; hole = Whole }) (counting-back c)
 set-back s c (Part t d) g h =
     let w = and-both (isDepth t) (isDepth d) (and-both (isDepth t && isDepth d) (leZ t d) g .0) in
-    settings-place s (countingByte c) 1 t d (depth-fits t (w .0)) (depth-fits d (w .1)) h
+    settings-place s (countingByte c) _ t d (depth-fits t (w .0)) (depth-fits d (w .1)) h
     ∙ ap (λ (x : Counting). record { counting = x; hole = Part t d }) (counting-back c)
 
 -- ---- the whole block

@@ -1,5 +1,8 @@
 //! Short names for writing records down in tests, and the specification's worked example.
 
+use crate::block::SIZE;
+use crate::frame::bytes;
+use crate::service::{record, Lent, Memory};
 use crate::terms::*;
 
 pub fn within(n: u32) -> Operator {
@@ -72,6 +75,20 @@ pub fn counting(value: u8) -> Record {
 /// A hole from top to bottom, which need not be one.
 pub fn hole(top: i32, bottom: i32) -> Record {
     Record::Hole(Hole { top, bottom })
+}
+
+/// The memory after these records, from a block whose tail is filled.
+pub fn after(records: &[Record]) -> Memory {
+    let lent = Lent {
+        block: SIZE + 9,
+        ..Lent::EXACT
+    };
+    let mut memory = Memory::zeros(lent);
+    memory.block[SIZE..].fill(7);
+    for input in records {
+        record(&mut memory, &lent, &bytes(input));
+    }
+    memory
 }
 
 /// Its last record puts a mark again.

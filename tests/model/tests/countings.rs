@@ -1,9 +1,8 @@
 //! Two ways of counting a distance: worked cases, the record that sets one, and RESET.
 
-use model::block::{COUNTING_AT, SIZE};
+use model::block::COUNTING_AT;
 use model::frame::{bytes, framed};
 use model::listing::{self, answers_to as answers};
-use model::service::{record, Lent, Memory};
 use model::short::*;
 use model::terms::*;
 
@@ -178,20 +177,6 @@ fn lengths_and_kinds() {
         assert_eq!(said(kind, &[1]), ["refused 4"]);
     }
     assert_eq!(bytes(&counting(2)), [3, 0, 17, 0, 2]);
-}
-
-/// The memory after these records, from a block whose tail is filled.
-fn after(records: &[Record]) -> Memory {
-    let lent = Lent {
-        block: SIZE + 9,
-        ..Lent::EXACT
-    };
-    let mut memory = Memory::zeros(lent);
-    memory.block[SIZE..].fill(7);
-    for input in records {
-        record(&mut memory, &lent, &bytes(input));
-    }
-    memory
 }
 
 /// Kind 17 changes one byte of the block and nothing else; RESET clears it and leaves the tail.

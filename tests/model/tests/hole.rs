@@ -1,6 +1,6 @@
 //! A hole with two ends: worked cases, the record that gives it, refusals 16 and 17, and RESET.
 
-use model::block::{decode, encode, SIZE};
+use model::block::{decode, encode};
 use model::frame::{bytes, framed};
 use model::held::Held;
 use model::listing::{self, answers_to as answers};
@@ -193,20 +193,6 @@ fn lengths_and_kinds() {
     assert_eq!(said(0x0112, &[0; 8]), ["refused 4"]);
     let ends = [0xfe, 0xff, 0xff, 0xff, 3, 1, 0, 0];
     assert_eq!(bytes(&hole(-2, 259)), [&[10, 0, 18, 0][..], &ends].concat());
-}
-
-/// The memory after these records, from a block whose tail is filled.
-fn after(records: &[Record]) -> Memory {
-    let lent = Lent {
-        block: SIZE + 9,
-        ..Lent::EXACT
-    };
-    let mut memory = Memory::zeros(lent);
-    memory.block[SIZE..].fill(7);
-    for input in records {
-        record(&mut memory, &lent, &bytes(input));
-    }
-    memory
 }
 
 /// Kind 18 changes the hole's bytes and nothing else; RESET clears them and leaves the tail.
