@@ -15,7 +15,7 @@ use Rattle.terms.specs.declared.Question.the-variants as Question
 use Rattle.terms.specs.Tests.{and-both, both-and, or-one, true-of, of-true, false-of, neither}
 use Rattle.terms.specs.Limits.{ITEMS, NEVER}
 use Rattle.terms.specs.Holes.{isInside, InHole}
-use Rattle.terms.specs.Held.{_∈_, Held, holeIn, endsOf}
+use Rattle.terms.specs.Held.{Held, holeIn, endsOf}
 use Rattle.terms.specs.HoleLaws.{lineOf, line-ordered, line-covers}
 use Rattle.terms.specs.Ends.{ends-placed}
 use Rattle.terms.specs.Limited.{InRange}
@@ -30,7 +30,7 @@ use Rattle.line.specs.Intervals.{cutsOf, interval, count}
 use Rattle.line.specs.IntervalLaws.{met}
 use Rattle.line.specs.Code.{cuts-inner}
 use Rattle.spans.specs.Runs.{runs}
-use Rattle.spans.specs.Longest.{run-ends, longest-one, runs-longest}
+use Rattle.spans.specs.Longest.{longest-one, runs-longest}
 use Rattle.verdicts.specs.Reading.{anyBelow, Lookup, absent, first, lowestOf}
 use Rattle.tables.specs.Saturate.{fact, mem}
 use Rattle.tables.specs.Executed.{model}
@@ -304,10 +304,3 @@ module _ (h : Held) (R : InRange h) where
       go : {r : Reply} → Cases (Question.Holds x i) r → (r ≡ Answered No) ⊎ ((a : ℕ) × (r ≡ Contradiction a))
       go (clear N) = inl (ap (λ b. Answered (cond b Yes No)) (false-of (table x i) (λ t. o (derived-inside h (held x i (true-of (table x i) t))))))
       go (clashing b l) = inr (b, refl)
-
-  -- both ends of a span lie in the hole, so that in one they are never the numbers for no end
-  pub spans-inside : (a A : ℕ) (rs : List Run) → answer h (Question.Spans a A) ≡ Answered (Spans rs) → (r : Run) → r ∈ rs →
-      InHole (holeIn h) (r .top) × InHole (holeIn h) (r .bottom)
-  spans-inside a A rs e r m =
-      let w = run-ends (λ i. Derived h (Has a A) i) rs (spans-exactly a A rs .0 e .1) r m in
-      (derived-inside h (w .0), derived-inside h (w .1))

@@ -1,5 +1,5 @@
 -- The counting from its byte, the hole from its byte and the ends that `i32_at` reads.
-use mathlib.Core.Path.{_≡_, _∙_}
+use mathlib.Core.Path.{_∙_}
 use Prim.Native.Nat.{_+_}
 use lib.ListN.{getD}
 use mir.Syntax.{w32}

@@ -1,10 +1,9 @@
 -- Every cut parts two depths of the whole line; in a hole, one below its top and not past its bottom. Assumes nothing.
-use mathlib.Core.Path.{_∙_, sym, ap}
 use mir.Syntax.{w32}
 use mir.Val.{SFits}
 use mir.Facts.{toZ-ofZ}
 use borrow.Author.Needs.{needs}
-use Rattle.terms.specs.HoleLaws.{isCut, part-cut}
+use Rattle.terms.specs.HoleLaws.{part-cut}
 use Rattle.terms.proofs.Hole.is_parted.Statement.{statement}
 use Rattle.terms.proofs.Hole.is_parted.Tie as tie
 

@@ -1,6 +1,5 @@
 -- Both ends; each fits 32 bits, and so 64. Assumes nothing.
 use native.Mathlib.Omega.{arith}
-use lib.IntN.{ℤ}
 use mir.Syntax.{w32, w64}
 use mir.Val.{SFits}
 use mir.Facts.{toZ-ofZ, sfits-widen}
