@@ -8,7 +8,7 @@ use native.Mathlib.Omega.{arith}
 use lib.Dec.{T}
 use Rattle.terms.specs.declared.Tested.{Tested}
 use Rattle.terms.specs.declared.Tested.the-variants as Tested
-use Rattle.terms.specs.Refusals.{rank, Test, tested}
+use Rattle.refusals.specs.Refusals.{rank, Test, tested}
 use Rattle.terms.specs.Otherwise.{orElse}
 use Rattle.terms.specs.Held.{_∈_}
 use Rattle.claims.specs.Table.{Ascends}

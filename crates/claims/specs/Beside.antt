@@ -4,10 +4,10 @@ use mathlib.Core.List.{List, [], _∷_}
 use Prim.Native.Nat.{ℕ}
 use Rattle.terms.specs.declared.Question.the-variants as Question
 use Rattle.terms.specs.Held.{isQuestion}
-use Rattle.terms.specs.Refusals.{Test, test}
+use Rattle.refusals.specs.Refusals.{Test, test}
 use Rattle.block.specs.Block.{good}
-use Rattle.service.specs.Buffers.{Buffers, After, after, short}
-use Rattle.service.specs.Call.{spanCall}
+use Rattle.commands.specs.Buffers.{Buffers, After, after, short}
+use Rattle.commands.specs.Call.{spanCall}
 
 -- 01, The book: the calls beside the records, each with what it is asked; here the span call
 pub data Beside-call : Type 0 where

@@ -19,7 +19,7 @@ use Rattle.terms.specs.declared.Tested.the-variants as Tested
 use Rattle.terms.specs.Held.{Held, withRules, withMarks, withCounting, withHole, emptyHeld}
 use Rattle.terms.specs.Limited.{InRange}
 use Rattle.terms.specs.Lists.{strike}
-use Rattle.terms.specs.Refusals.{rank, tested, test, Test}
+use Rattle.refusals.specs.Refusals.{rank, tested, test, Test}
 use Rattle.terms.specs.Same.{sameMark}
 use Rattle.records.specs.declared.Command.{Command}
 use Rattle.records.specs.declared.Command.the-variants as Command
@@ -28,8 +28,8 @@ use Rattle.records.specs.Records.{parse}
 use Rattle.decide.specs.Decides.{Reply, Decides}
 use Rattle.decide.specs.Decide.{at-most-one, answer-decides}
 use Rattle.decide.specs.Answer.{answer}
-use Rattle.service.specs.Buffers.{isShort}
-use Rattle.service.specs.Call.{Outcome, Refused, Ended, Changed, Asked, obey, judged}
+use Rattle.commands.specs.Buffers.{isShort}
+use Rattle.commands.specs.Call.{Outcome, Refused, Ended, Changed, Asked, obey, judged}
 use Rattle.claims.specs.Ascending.{clash}
 use Rattle.claims.specs.Table.{
   Counts,

@@ -14,13 +14,13 @@ use Rattle.terms.specs.declared.Question.the-variants as Question
 use Rattle.terms.specs.Limits.{INTERVALS}
 use Rattle.terms.specs.Held.{Held, holeIn}
 use Rattle.terms.specs.Lists.{limits}
-use Rattle.terms.specs.Depths.{Derived}
+use Rattle.logic.specs.Depths.{Derived}
 use Rattle.terms.specs.Spans.{Run, Longest, flat}
 use Rattle.line.specs.Pieces.{Pieces}
 use Rattle.tables.specs.Shows.{Shows}
 use Rattle.block.specs.Layout.{SIZE, encode}
 use Rattle.decide.specs.Decides.{Never, Lowest, Some, InAll, InOneNot}
-use Rattle.service.specs.Buffers.{Buffers, After}
+use Rattle.commands.specs.Buffers.{Buffers, After}
 use Rattle.claims.specs.Table.{Asks}
 use Rattle.claims.specs.Reference.{Fed, Accepted}
 

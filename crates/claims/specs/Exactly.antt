@@ -20,8 +20,8 @@ use Rattle.terms.specs.declared.Tested.the-variants as Tested
 use Rattle.terms.specs.Tests.{true-of, of-true}
 use Rattle.terms.specs.Limits.{LABEL-ENTRIES, LINK-ENTRIES}
 use Rattle.terms.specs.Held.{Held}
-use Rattle.terms.specs.Depths.{Derived}
-use Rattle.terms.specs.Refusals.{tested}
+use Rattle.logic.specs.Depths.{Derived}
+use Rattle.refusals.specs.Refusals.{tested}
 use Rattle.terms.specs.Otherwise.{onTested}
 use Rattle.terms.specs.Spans.{Run, Longest, flat}
 use Rattle.line.specs.Intervals.{interval, count}
@@ -38,9 +38,10 @@ use Rattle.decide.specs.Answer.{answer}
 use Rattle.decide.specs.Decide.{contradiction-exactly, yes-exactly, no-exactly, spans-exactly, clear-spans}
 use Rattle.decide.specs.Sentences.{some-never, none-satisfies, yes-in-all, no-in-one, spans-in-all, spans-longest}
 use Rattle.decide.specs.Verdicts.{answerOf}
-use Rattle.service.specs.Buffers.{Buffers, After, after, short}
-use Rattle.service.specs.Code.{spansAfter, replied-is}
-use Rattle.service.specs.Call.{Ended, obey, filled, replied, effect, call}
+use Rattle.commands.specs.Buffers.{Buffers, After, after, short}
+use Rattle.questions.specs.Code.{spansAfter}
+use Rattle.commands.specs.Code.{replied-is}
+use Rattle.commands.specs.Call.{Ended, obey, filled, replied, effect, call}
 use Rattle.claims.specs.Ascending.{differ}
 use Rattle.claims.specs.Table.{Asks, table}
 use Rattle.claims.specs.Exact.{feeding, Holding, Asking, Runs-written, Told-by, Exact}

@@ -13,7 +13,7 @@ use Rattle.terms.specs.declared.Rule.{Rule}
 use Rattle.terms.specs.declared.Mark.{Mark}
 use Rattle.terms.specs.Limits.{RULES, MARKS, DEPTHS}
 use Rattle.terms.specs.declared.Tested.the-variants as Tested
-use Rattle.terms.specs.Refusals.{Test, test, tested}
+use Rattle.refusals.specs.Refusals.{Test, test, tested}
 use Rattle.terms.specs.declared.Hole.the-variants.{Part}
 use Rattle.terms.specs.Holes.{isHole, liesIn}
 use Rattle.terms.specs.Held.{Held, holeIn, endsOf, withCounting, withHole, isRule, isMark, emptyHeld}

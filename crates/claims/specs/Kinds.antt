@@ -9,12 +9,12 @@ use Rattle.terms.specs.declared.Tested.{Tested}
 use Rattle.terms.specs.declared.Tested.the-variants as Tested
 use Rattle.terms.specs.Tests.{of-true}
 use Rattle.terms.specs.Held.{Held, emptyHeld}
-use Rattle.terms.specs.Refusals.{Test, test, tested}
+use Rattle.refusals.specs.Refusals.{Test, test, tested}
 use Rattle.records.specs.declared.Command.{Command}
 use Rattle.records.specs.declared.Command.the-variants as Command
 use Rattle.records.specs.Formats.{lengthField, kindField, bodyOf, isUnknown, lengthsOf}
 use Rattle.records.specs.Records.{bodyTests, commandIn, frameTests}
-use Rattle.service.specs.Call.{listTests}
+use Rattle.commands.specs.Call.{listTests}
 use Rattle.claims.specs.Table.{
   Counts,
   Confines,

@@ -15,7 +15,7 @@ use Rattle.terms.specs.declared.Tested.{Tested}
 use Rattle.terms.specs.declared.Tested.the-variants as Tested
 use Rattle.terms.specs.Tests.{and-both, of-true}
 use Rattle.terms.specs.Limits.{LABEL-ENTRIES, LINK-ENTRIES}
-use Rattle.terms.specs.Refusals.{test, tested}
+use Rattle.refusals.specs.Refusals.{test, tested}
 use Rattle.terms.specs.Otherwise.{onTested}
 use Rattle.terms.specs.Held.{Held}
 use Rattle.terms.specs.Lists.{limits}
@@ -30,9 +30,9 @@ use Rattle.decide.specs.Answer.{answer}
 use Rattle.decide.specs.Decides.{Yes, No, Spans, Reply, Contradiction, Answered}
 use Rattle.decide.specs.Verdicts.{spans-fit}
 use Rattle.tables.specs.TableLaws.{length-labels, length-links}
-use Rattle.service.specs.Call.{lentTests, Outcome, Refused, Ended, Changed, Asked, judged, filled, replied, effect, onLent, call, spanCall}
-use Rattle.service.specs.Buffers.{Buffers, after, short}
-use Rattle.service.specs.Code.{Enough, enough}
+use Rattle.commands.specs.Call.{lentTests, Outcome, Refused, Ended, Changed, Asked, judged, filled, replied, effect, onLent, call, spanCall}
+use Rattle.commands.specs.Buffers.{Buffers, after, short}
+use Rattle.commands.specs.Code.{Enough, enough}
 use Rattle.terms.specs.Pairs.{pairCount}
 use Rattle.claims.specs.Memory.{Written-in, Lent-kept}
 use Rattle.claims.specs.Ascending.{clash}

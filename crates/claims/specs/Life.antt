@@ -13,7 +13,7 @@ use Rattle.terms.specs.declared.Question.the-variants as Question
 use Rattle.terms.specs.declared.Tested.{Tested}
 use Rattle.terms.specs.declared.Tested.the-variants as Tested
 use Rattle.terms.specs.Tests.{true-of}
-use Rattle.terms.specs.Refusals.{test, tested}
+use Rattle.refusals.specs.Refusals.{test, tested}
 use Rattle.terms.specs.Otherwise.{onTested}
 use Rattle.terms.specs.Held.{Held, emptyHeld}
 use Rattle.terms.specs.Lists.{limits}
@@ -29,7 +29,7 @@ use Rattle.spans.specs.Longest.{flat-length}
 use Rattle.decide.specs.Decide.{answer-decides}
 use Rattle.decide.specs.Answer.{answer}
 use Rattle.decide.specs.Decides.{Yes, No, Spans, Reply, Contradiction, Answered, Decides}
-use Rattle.service.specs.Call.{
+use Rattle.commands.specs.Call.{
   lentTests,
   Outcome,
   Refused,
@@ -45,8 +45,8 @@ use Rattle.service.specs.Call.{
   call,
   spanCall,
 }
-use Rattle.service.specs.Buffers.{Buffers, After, after, isShort, short}
-use Rattle.service.specs.Code.{enough}
+use Rattle.commands.specs.Buffers.{Buffers, After, after, isShort, short}
+use Rattle.commands.specs.Code.{enough}
 use Rattle.claims.specs.Beside.{Beside-call, spans-of, blockAfter}
 use Rattle.claims.specs.Lives.{
   Lending,

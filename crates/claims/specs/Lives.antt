@@ -7,8 +7,8 @@ use lib.ListN.{length, take, drop}
 use Rattle.terms.specs.Pairs.{pairsOf}
 use Rattle.terms.specs.Held.{Held}
 use Rattle.block.specs.Layout.{zeros, SIZE, encode}
-use Rattle.service.specs.Buffers.{Buffers, lent, After}
-use Rattle.service.specs.Call.{call}
+use Rattle.commands.specs.Buffers.{Buffers, lent, After}
+use Rattle.commands.specs.Call.{call}
 use Rattle.claims.specs.Beside.{Beside-call, blockAfter}
 use Rattle.claims.specs.Reference.{Fed, Result, Book}
 

@@ -8,7 +8,7 @@ use Rattle.terms.specs.declared.Answer.the-variants as Answer
 use Rattle.terms.specs.Pairs.{pairCount}
 use Rattle.terms.specs.Limits.{DEPTHS, LABEL-ENTRIES, LINK-ENTRIES}
 use Rattle.block.specs.Layout.{SIZE}
-use Rattle.service.specs.Buffers.{Buffers}
+use Rattle.commands.specs.Buffers.{Buffers}
 
 -- 01, State and tables: only done changes the block, and done leaves the tables; only spans write the span buffer; end changes nothing
 pub record Keeps (a : Answer) (m after : Buffers) : Type 0 where

@@ -7,8 +7,8 @@ use lib.ListN.{length, take, drop, length-take, length-drop, take-append-drop}
 use lib.Seq.{take-all, drop-length}
 use Rattle.terms.specs.Held.{Held}
 use Rattle.block.specs.Layout.{SIZE}
-use Rattle.service.specs.Buffers.{Buffers, lent}
-use Rattle.service.specs.Call.{call}
+use Rattle.commands.specs.Buffers.{Buffers, lent}
+use Rattle.commands.specs.Call.{call}
 use Rattle.claims.specs.Reference.{Fed, Book}
 use Rattle.claims.specs.Lives.{Lending, lentTo, fed, resultOf}
 use Rattle.claims.specs.Exact.{feeding, Holding}

@@ -12,8 +12,8 @@ use Rattle.terms.specs.declared.Question.the-variants as Question
 use Rattle.terms.specs.declared.Hole.{Hole}
 use Rattle.terms.specs.Holes.{InHole}
 use Rattle.terms.specs.Held.{_∈_, Held, holeIn}
-use Rattle.terms.specs.Inside.{derived-inside}
-use Rattle.terms.specs.Depths.{Derived}
+use Rattle.logic.specs.Inside.{derived-inside}
+use Rattle.logic.specs.Depths.{Derived}
 use Rattle.terms.specs.Spans.{Run, flat}
 use Rattle.terms.specs.Limited.{limited, in-range}
 use Rattle.spans.specs.Longest.{run-ends}
@@ -21,9 +21,9 @@ use Rattle.records.specs.Formats.{lengthField}
 use Rattle.decide.specs.Decide.{outside-no}
 use Rattle.decide.specs.Answer.{answer}
 use Rattle.decide.specs.Verdicts.{answerOf}
-use Rattle.service.specs.Buffers.{Buffers, After}
-use Rattle.service.specs.Call.{call}
-use Rattle.service.specs.Code.{replied-is}
+use Rattle.commands.specs.Buffers.{Buffers, After}
+use Rattle.commands.specs.Call.{call}
+use Rattle.commands.specs.Code.{replied-is}
 use Rattle.claims.specs.Exact.{Asking, Contradicts}
 use Rattle.claims.specs.Exactly.{asked-call, call-exact}
 

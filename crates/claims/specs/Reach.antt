@@ -19,7 +19,7 @@ use Rattle.terms.specs.Tests.{and-both, true-of, false-of}
 use Rattle.terms.specs.Limits.{RULES, MARKS, DEPTHS, LABEL-ENTRIES, LINK-ENTRIES, SPAN-NUMBERS}
 use Rattle.terms.specs.declared.Settings.{Settings}
 use Rattle.terms.specs.declared.Tested.the-variants as Tested
-use Rattle.terms.specs.Refusals.{tested}
+use Rattle.refusals.specs.Refusals.{tested}
 use Rattle.terms.specs.Holes.{isHole, liesIn}
 use Rattle.terms.specs.Held.{_∈_, Held, endsOf, withCounting, withHole, isRule, isMark, isSettings, emptyHeld}
 use Rattle.terms.specs.Same.{sameRule, sameMark}
@@ -31,7 +31,7 @@ use Rattle.records.specs.declared.Command.{Command}
 use Rattle.records.specs.declared.Command.the-variants as Command
 use Rattle.records.specs.Parsed as Parsed
 use Rattle.records.specs.Records.{parse}
-use Rattle.service.specs.Call.{Outcome, Changed, listTests, obey}
+use Rattle.commands.specs.Call.{Outcome, Changed, listTests, obey}
 use Rattle.claims.specs.Kept.{
   in-some,
   every-in,

@@ -16,12 +16,12 @@ use Rattle.terms.specs.declared.Tested.{Tested}
 use Rattle.terms.specs.declared.Tested.the-variants as Tested
 use Rattle.terms.specs.Held.{Held, withRules, withMarks, withCounting, withHole, emptyHeld}
 use Rattle.terms.specs.Lists.{strike}
-use Rattle.terms.specs.Refusals.{tested}
+use Rattle.refusals.specs.Refusals.{tested}
 use Rattle.terms.specs.Same.{sameMark}
 use Rattle.terms.specs.Spans.{flat}
 use Rattle.records.specs.Formats.{lengthField, usedFor}
 use Rattle.decide.specs.Decides.{Yes, No, Spans, Reply, Contradiction, Answered, Decides}
-use Rattle.service.specs.Buffers.{isShort}
+use Rattle.commands.specs.Buffers.{isShort}
 use Rattle.claims.specs.Table.{Counts, Confines, Said, Empties, Adds, Puts, Takes, Sets, Asks, said, table}
 
 -- 01, The book: what it is fed from a record call

@@ -13,8 +13,8 @@ use Rattle.terms.specs.declared.Answer.the-variants as Answer
 use Rattle.terms.specs.declared.Question.{Question}
 use Rattle.terms.specs.declared.Tested.{Tested}
 use Rattle.terms.specs.declared.Tested.the-variants as Tested
-use Rattle.terms.specs.Refusals.{rank, Test, test, tested}
-use Rattle.terms.specs.Ranks.{rank-number, rank-lower}
+use Rattle.refusals.specs.Refusals.{rank, Test, test, tested}
+use Rattle.refusals.specs.Ranks.{rank-number, rank-lower}
 use Rattle.terms.specs.Otherwise.{onTested, orElse}
 use Rattle.terms.specs.Held.{_∈_, Held}
 use Rattle.block.specs.Block.{readHeld, good}
@@ -26,9 +26,9 @@ use Rattle.records.specs.Records.{bodyTests, commandIn, decodedAs, frameTests, 
 use Rattle.decide.specs.Decides.{Yes, No, Spans, Reply, Contradiction, Answered}
 use Rattle.decide.specs.Answer.{answer}
 use Rattle.decide.specs.Verdicts.{answerOf}
-use Rattle.service.specs.Buffers.{Buffers, After, after, short}
-use Rattle.service.specs.Code.{replied-is}
-use Rattle.service.specs.Call.{Outcome, Refused, Ended, listTests, obey, judged, effect, call}
+use Rattle.commands.specs.Buffers.{Buffers, After, after, short}
+use Rattle.commands.specs.Code.{replied-is}
+use Rattle.commands.specs.Call.{Outcome, Refused, Ended, listTests, obey, judged, effect, call}
 use Rattle.claims.specs.Ascending.{
   differ,
   same-number,

@@ -16,7 +16,7 @@ use Rattle.terms.specs.declared.Tested.{Tested}
 use Rattle.terms.specs.declared.Tested.the-variants as Tested
 use Rattle.terms.specs.Tests.{true-of}
 use Rattle.terms.specs.Held.{Held, isQuestion}
-use Rattle.terms.specs.Refusals.{test, tested}
+use Rattle.refusals.specs.Refusals.{test, tested}
 use Rattle.terms.specs.Otherwise.{onTested}
 use Rattle.block.specs.Block.{readHeld, good}
 use Rattle.records.specs.declared.Command.the-variants as Command
@@ -27,9 +27,9 @@ use Rattle.records.specs.Records.{bodyTests, commandIn, questionTests, decodedA
 use Rattle.records.specs.Frame.{parse-record}
 use Rattle.decide.specs.Decides.{Yes, No, Spans, Reply, Contradiction, Answered}
 use Rattle.decide.specs.Answer.{answer}
-use Rattle.service.specs.Buffers.{Buffers, After, after, short}
-use Rattle.service.specs.Code.{replied-is}
-use Rattle.service.specs.Call.{lentTests, judged, replied, effect, onLent, call, spanCall}
+use Rattle.commands.specs.Buffers.{Buffers, After, after, short}
+use Rattle.commands.specs.Code.{replied-is}
+use Rattle.commands.specs.Call.{lentTests, judged, replied, effect, onLent, call, spanCall}
 use Rattle.claims.specs.Ascending.{clash, same-number}
 use Rattle.claims.specs.Refused.{reply-accepts}
 use Rattle.claims.specs.Table.{saidBy}

@@ -11,13 +11,13 @@ use Rattle.terms.specs.declared.Rule.{Rule}
 use Rattle.terms.specs.declared.Mark.{Mark}
 use Rattle.terms.specs.declared.Question.{Question}
 use Rattle.terms.specs.Limits.{RULES, MARKS, DEPTHS, isDepth}
-use Rattle.terms.specs.Refusals.{rank, Test, test}
+use Rattle.refusals.specs.Refusals.{rank, Test, test}
 use Rattle.terms.specs.Same.{sameMark, sameRule}
 use Rattle.terms.specs.Holes.{liesIn}
 use Rattle.terms.specs.Held.{Held, holeIn, endsOf, isNamed, isMarkable, isPlaced, isOrdered, isQuestion}
 use Rattle.terms.specs.Lists.{some, depthCount}
 use Rattle.block.specs.Block.{readHeld, good}
-use Rattle.service.specs.Buffers.{Buffers, short}
+use Rattle.commands.specs.Buffers.{Buffers, short}
 use Rattle.records.specs.Formats.{
   lengthField,
   kindField,

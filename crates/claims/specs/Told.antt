@@ -6,8 +6,8 @@ use Rattle.terms.specs.declared.Question.{Question}
 use Rattle.terms.specs.Held.{Held}
 use Rattle.records.specs.Records.{parse}
 use Rattle.decide.specs.Decides.{Reply, Decides}
-use Rattle.service.specs.Buffers.{isShort}
-use Rattle.service.specs.Call.{Outcome, Refused, Ended, Changed, Asked, judged}
+use Rattle.commands.specs.Buffers.{isShort}
+use Rattle.commands.specs.Call.{Outcome, Refused, Ended, Changed, Asked, judged}
 use Rattle.claims.specs.Reference.{Fed, Result, plain, shown}
 
 -- what the call comes to with these lists held

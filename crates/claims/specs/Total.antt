@@ -7,7 +7,7 @@ use Rattle.terms.specs.declared.Answer.{Answer}
 use Rattle.terms.specs.declared.Answer.the-variants as Answer
 use Rattle.terms.specs.declared.Tested.{Tested}
 use Rattle.terms.specs.declared.Tested.the-variants as Tested
-use Rattle.terms.specs.Refusals.{tested}
+use Rattle.refusals.specs.Refusals.{tested}
 use Rattle.terms.specs.Otherwise.{onTested}
 use Rattle.terms.specs.Held.{Held}
 use Rattle.block.specs.Block.{readHeld}
@@ -16,8 +16,8 @@ use Rattle.decide.specs.Answer.{answer}
 use Rattle.decide.specs.Decides.{Yes, No, Spans, Reply, Contradiction, Answered}
 use Rattle.claims.specs.Ascending.{differ}
 use Rattle.claims.specs.Memory.{Keeps}
-use Rattle.service.specs.Call.{lentTests, Outcome, Refused, Ended, Changed, Asked, judged, replied, effect, call}
-use Rattle.service.specs.Buffers.{Buffers, after}
+use Rattle.commands.specs.Call.{lentTests, Outcome, Refused, Ended, Changed, Asked, judged, replied, effect, call}
+use Rattle.commands.specs.Buffers.{Buffers, after}
 
 -- ---- what an answer leaves
 

@@ -11,7 +11,7 @@ use Rattle.terms.specs.declared.Answer.the-variants as Answer
 use Rattle.codec.specs.Bytes.{bytes}
 use Rattle.terms.specs.Tests.{true-of, of-true}
 use Rattle.terms.specs.declared.Tested.the-variants as Tested
-use Rattle.terms.specs.Refusals.{tested}
+use Rattle.refusals.specs.Refusals.{tested}
 use Rattle.terms.specs.Held.{Held, emptyHeld}
 use Rattle.block.specs.Layout.{zeros, SIZE, encode}
 use Rattle.block.specs.Block.{readHeld, good, unreadable, holds, decode}
@@ -20,10 +20,10 @@ use Rattle.records.specs.declared.Command.{Command}
 use Rattle.records.specs.declared.Command.the-variants as Command
 use Rattle.records.specs.Proper.{Proper, parse-proper}
 use Rattle.records.specs.Records.{parse}
-use Rattle.service.specs.Call.{Outcome, Refused, listTests, obey, judged, call}
-use Rattle.service.specs.Buffers.{Buffers, isShort, short}
+use Rattle.commands.specs.Call.{Outcome, Refused, listTests, obey, judged, call}
+use Rattle.commands.specs.Buffers.{Buffers, isShort, short}
 use Rattle.claims.specs.Refused.{two-by-block, end-by-block}
-use Rattle.service.specs.Code.{enough}
+use Rattle.commands.specs.Code.{enough}
 use Rattle.claims.specs.Kept.{Limited, in-range, empty-limited, added-limited, put-limited, counted-limited, confined-limited, taken-limited}
 use Rattle.claims.specs.Reference.{Fed, Result, Book, Entered, at-first, after-call}
 use Rattle.claims.specs.Exact.{Holding}

@@ -19,11 +19,11 @@ use Rattle.terms.specs.Held.{Held, holeIn, endsOf}
 use Rattle.terms.specs.HoleLaws.{lineOf, line-ordered, line-covers}
 use Rattle.terms.specs.Ends.{ends-placed}
 use Rattle.terms.specs.Limited.{InRange}
-use Rattle.terms.specs.Model.{by-mark, by-every, by-rule}
-use Rattle.terms.specs.Depths.{Derived}
-use Rattle.terms.specs.Interpretations.{Interpretation, Satisfies}
-use Rattle.terms.specs.Inside.{derived-inside}
-use Rattle.terms.specs.Entailed.{true-in-all}
+use Rattle.logic.specs.Model.{by-mark, by-every, by-rule}
+use Rattle.logic.specs.Depths.{Derived}
+use Rattle.logic.specs.Interpretations.{Interpretation, Satisfies}
+use Rattle.logic.specs.Inside.{derived-inside}
+use Rattle.logic.specs.Entailed.{true-in-all}
 use Rattle.terms.specs.Spans.{Run, Covers, Longest}
 use Rattle.line.specs.CutLaws.{upto-length, cuts-asc}
 use Rattle.line.specs.Intervals.{cutsOf, interval, count}

@@ -10,8 +10,8 @@ use Rattle.terms.specs.declared.Question.{Question}
 use Rattle.terms.specs.declared.Question.the-variants as Question
 use Rattle.terms.specs.Limits.{ITEMS, NEVER}
 use Rattle.terms.specs.Held.{Held}
-use Rattle.terms.specs.Depths.{Derived}
-use Rattle.terms.specs.Interpretations.{Interpretation, Satisfies}
+use Rattle.logic.specs.Depths.{Derived}
+use Rattle.logic.specs.Interpretations.{Interpretation, Satisfies}
 use Rattle.terms.specs.Spans.{Run, Longest}
 
 -- 01, Records: yes, no, or spans

@@ -16,8 +16,8 @@ use Rattle.terms.specs.Tests.{of-true}
 use Rattle.terms.specs.Pairs.{pairCount}
 use Rattle.terms.specs.Limits.{LABEL-ENTRIES, LINK-ENTRIES, SPAN-NUMBERS}
 use Rattle.block.specs.Layout.{zeros, SIZE}
-use Rattle.service.specs.Call.{call}
-use Rattle.service.specs.Buffers.{Buffers, lent, After, after}
+use Rattle.commands.specs.Call.{call}
+use Rattle.commands.specs.Buffers.{Buffers, lent, After, after}
 use Rattle.lines.specs.Lines.{lineText}
 use Rattle.harmikse.specs.Program.{LIMIT, fresh, goesOn, begun, handled, Prints, line-of, Whole, at-end, at-refusal-3}
 use Rattle.harmikse.specs.Code.{isEnd, On, Runs}

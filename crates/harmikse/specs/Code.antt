@@ -6,7 +6,7 @@ use Prim.Native.Nat.{ℕ, _≤_}
 use lib.ListN.{length, drop}
 use Rattle.terms.specs.declared.Answer.{Answer}
 use Rattle.terms.specs.declared.Answer.the-variants as Answer
-use Rattle.service.specs.Buffers.{Buffers}
+use Rattle.commands.specs.Buffers.{Buffers}
 use Rattle.harmikse.specs.declared.Place.{Place}
 use Rattle.harmikse.specs.Program.{Reaches, Whole}
 

@@ -10,8 +10,8 @@ use lib.Dec.{T, ltb}
 use lib.ListN.{drop}
 use Rattle.terms.specs.declared.Answer.{Answer}
 use Rattle.terms.specs.declared.Answer.the-variants as Answer
-use Rattle.service.specs.Call.{call}
-use Rattle.service.specs.Buffers.{Buffers}
+use Rattle.commands.specs.Call.{call}
+use Rattle.commands.specs.Buffers.{Buffers}
 use Rattle.lines.specs.Lines.{lineText}
 use Rattle.harmikse.specs.Program.{tooLong, goesOn, Reaches, begun, handled, Prints, too-long, line-of, Whole, only-too-long, at-end, at-refusal-3}
 

@@ -10,8 +10,8 @@ use Rattle.terms.specs.declared.Answer.{Answer}
 use Rattle.terms.specs.declared.Answer.the-variants as Answer
 use Rattle.terms.specs.Limits.{LABEL-ENTRIES, LINK-ENTRIES, SPAN-NUMBERS}
 use Rattle.block.specs.Layout.{zeros, SIZE}
-use Rattle.service.specs.Call.{call}
-use Rattle.service.specs.Buffers.{Buffers, lent}
+use Rattle.commands.specs.Call.{call}
+use Rattle.commands.specs.Buffers.{Buffers, lent}
 use Rattle.lines.specs.Lines.{codes, lineText}
 
 -- 01, The program's lines: input is at most so many bytes

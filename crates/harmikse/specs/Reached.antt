@@ -16,14 +16,14 @@ use Rattle.terms.specs.declared.Answer.the-variants as Answer
 use Rattle.terms.specs.Tests.{true-of}
 use Rattle.terms.specs.Pairs.{pairCount}
 use Rattle.terms.specs.Limits.{LABEL-ENTRIES, LINK-ENTRIES, SPAN-NUMBERS}
-use Rattle.terms.specs.Refusals.{rank, Test, test}
+use Rattle.refusals.specs.Refusals.{rank, Test, test}
 use Rattle.terms.specs.Held.{_∈_, Held, emptyHeld}
 use Rattle.terms.specs.Limited.{Limited, of-limited}
 use Rattle.block.specs.Layout.{zeros, SIZE, encode}
 use Rattle.block.specs.Block.{readHeld, good}
 use Rattle.records.specs.Records.{parse}
-use Rattle.service.specs.Call.{judged, effect, call}
-use Rattle.service.specs.Buffers.{Buffers, lent, short}
+use Rattle.commands.specs.Call.{judged, effect, call}
+use Rattle.commands.specs.Buffers.{Buffers, lent, short}
 use Rattle.claims.specs.Kept.{empty-limited}
 use Rattle.claims.specs.Lives.{Lending, lentTo, fed}
 use Rattle.claims.specs.Told.{outcome}

@@ -11,7 +11,7 @@ use Rattle.terms.specs.declared.Answer.the-variants as Answer
 use Rattle.terms.specs.declared.Settings.{Settings}
 use Rattle.terms.specs.declared.Tested.{Tested}
 use Rattle.terms.specs.declared.Tested.the-variants as Tested
-use Rattle.terms.specs.Refusals.{rank, tested}
+use Rattle.refusals.specs.Refusals.{rank, tested}
 use Rattle.terms.specs.Otherwise.{onTested}
 use Rattle.terms.specs.Held.{Held}
 use Rattle.records.specs.declared.Command.{Command}
@@ -27,8 +27,8 @@ use Rattle.records.specs.Records.{framed, decodeBody, parsedBody, parsedFrame, 
 use Rattle.records.specs.Formats.{lengthField, kindField, bodyOf, isUnknown, allows, lengthsOf, usedFor}
 use Rattle.decide.specs.Answer.{answer}
 use Rattle.decide.specs.Decides.{Yes, No, Spans, Reply, Contradiction, Answered}
-use Rattle.service.specs.Call.{Outcome, Refused, Ended, Changed, Asked, listTests, obey, judged, replied, effect}
-use Rattle.service.specs.Buffers.{Buffers}
+use Rattle.commands.specs.Call.{Outcome, Refused, Ended, Changed, Asked, listTests, obey, judged, replied, effect}
+use Rattle.commands.specs.Buffers.{Buffers}
 
 -- so many bytes of those left
 pub record Within (s : List ℕ) (u : ℕ) : Type 0 where

@@ -5,7 +5,7 @@ ghost use Prim.Native.Nat.{_≤_, _<_};
 ghost use lib.ListN.{length, take};
 ghost use Rattle.terms.specs.Pairs.{pairCount};
 ghost use Rattle.terms.specs.Limits.{SPAN-NUMBERS};
-ghost use Rattle.service.specs.Buffers.{lent};
+ghost use Rattle.commands.specs.Buffers.{lent};
 ghost use Rattle.lines.specs.Lines.{lineText};
 ghost use Rattle.harmikse.specs.Program.{LIMIT, goesOn, Prints, Whole};
 ghost use Rattle.harmikse.specs.Code.{isEnd, On, Runs};

@@ -3,7 +3,7 @@ use mathlib.Core.Path.{_≡_}
 use Prim.Native.Nat.{ℕ, _+_, _*_, _/_, _%_, _^_, _<_}
 use Rattle.terms.specs.declared.Answer.{Answer}
 use Rattle.terms.specs.Answers.{numberOf, valueOf}
-use Rattle.service.specs.Buffers.{Buffers, After}
+use Rattle.commands.specs.Buffers.{Buffers, After}
 
 -- an answer as one number: its own number in the upper half, its value in the lower
 abbrev pub packed : Answer → ℕ

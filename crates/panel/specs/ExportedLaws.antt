@@ -7,12 +7,11 @@ use native.Mathlib.Omega.{arith}
 use borrow.Author.Tests.{le-ltb, ltb-false}
 use lib.Dec.{ltb}
 use Rattle.terms.specs.declared.Answer.{Answer}
-use Rattle.terms.specs.declared.Answer.the-variants as Answer
 use Rattle.terms.specs.declared.Question.{Question}
 use Rattle.terms.specs.declared.Question.the-variants as Question
 use Rattle.terms.specs.declared.Settings.{Settings}
 use Rattle.terms.specs.Limits.{ITEMS, LABELS, isItem, isLabel}
-use Rattle.terms.specs.Refusals.{test, tested}
+use Rattle.refusals.specs.Refusals.{test, tested}
 use Rattle.terms.specs.Held.{Held, isQuestion}
 use Rattle.block.specs.Block.{readHeld}
 use Rattle.records.specs.declared.Command.the-variants as Command
@@ -20,8 +19,8 @@ use Rattle.records.specs.declared.Decoded.{Decoded}
 use Rattle.records.specs.declared.Decoded.the-variants as Decoded
 use Rattle.records.specs.Records.{decodedAs, asQuestion, parsedBody}
 use Rattle.decide.specs.Decides.{Spans}
-use Rattle.service.specs.Call.{judged, onLent, spanCall}
-use Rattle.service.specs.Buffers.{Buffers, After, after}
+use Rattle.commands.specs.Call.{judged, onLent, spanCall}
+use Rattle.commands.specs.Buffers.{Buffers, After, after}
 use Rattle.claims.specs.SpanRecord.{span-as-record}
 use Rattle.panel.specs.Exported.{exported, packed, returned}
 

@@ -7,8 +7,8 @@ use native.Mathlib.Omega.{arith}
 use Rattle.terms.specs.declared.Answer.{Answer}
 use Rattle.terms.specs.declared.Answer.the-variants.{Done, Yes, No, Contradiction, Spans, End, Refused}
 use Rattle.terms.specs.Answers.{numberOf, valueOf}
-use Rattle.service.specs.Buffers.{Buffers}
-use Rattle.service.specs.Call.{call, spanCall}
+use Rattle.commands.specs.Buffers.{Buffers}
+use Rattle.commands.specs.Call.{call, spanCall}
 use Rattle.claims.specs.Values.{call-value, span-value}
 use Rattle.panel.specs.Exported.{Unpacked}
 

@@ -1,7 +1,7 @@
 // The panel's calls, for a host program in C: one takes one record, one asks for spans beside the records.
 ghost use mathlib.Core.Path.{_≡_};
-ghost use Rattle.service.specs.Call.{call, spanCall};
-ghost use Rattle.service.specs.Buffers.{lent};
+ghost use Rattle.commands.specs.Call.{call, spanCall};
+ghost use Rattle.commands.specs.Buffers.{lent};
 ghost use Rattle.panel.specs.Exported.{packed, returned, exported};
 ghost use Rattle.panel.specs.ExportedLaws.{clamped};
 use terms::Answer;

@@ -3,7 +3,11 @@
 ghost use mathlib.Core.Path.{_≡_};
 ghost use lib.ListN.{drop};
 ghost use Rattle.records.specs.Records.{framed};
+ghost use Rattle.reader.specs.Code.{inputOf, Parsed-as};
+use records::Command;
+use records::Decoded;
 use records::Framed;
+use terms::Settings;
 
 pub struct Reader<'a> {
     pub src: &'a [u8],
@@ -14,10 +18,10 @@ pub struct Reader<'a> {
 pub fn frame_at(src: &[u8], at: usize) -> Framed
     ensures { λ r. ⌜ r ≡ framed (drop at (now (src .entry))) ⌝ }
 {
-    if at < src.len() {
-        return records::frame(&src[at..]);
+    if at >= src.len() {
+        return Framed::Nothing;
     }
-    Framed::Nothing
+    records::frame(&src[at..])
 }
 
 // A reader that has read up to a place.
@@ -39,4 +43,36 @@ pub fn read(src: &[u8], at: usize) -> Framed
     ensures { λ p. ⌜ p ≡ framed (drop at (now (src .entry))) ⌝ }
 {
     next(from(src, at))
+}
+
+// What is left of the input, read: nothing; a refusal's number and the bytes used; a command and the bytes of its record. The body stands beside it in
+// the input. (The state is not handed through the reading: each hand-on by value is a copy on the stack.)
+pub enum Input {
+    Nothing,
+    Refused(u8, usize),
+    Record(Command, usize),
+}
+
+// A body that was decoded, with the bytes of its record.
+fn input_of(decoded: Decoded, used: usize) -> Input
+    ensures { λ r. ⌜ r ≡ inputOf decoded used ⌝ }
+{
+    match decoded {
+        Decoded::Command(command) => Input::Record(command, used),
+        Decoded::Refused(number) => Input::Refused(number, used),
+    }
+}
+
+// What is left of the input from a place on: the frame, then the body under the settings.
+pub fn parse(settings: Settings, input: &[u8], at: usize) -> Input
+    ensures { λ r. ⌜ Parsed-as settings (drop at (now (input .entry))) r ⌝ }
+{
+    match read(input, at) {
+        Framed::Nothing => Input::Nothing,
+        Framed::Refused(number, used) => Input::Refused(number, used),
+        Framed::Record(kind, used) => input_of(
+            records::decode_body(settings, kind, &input[at + 4..at + used]),
+            used,
+        ),
+    }
 }

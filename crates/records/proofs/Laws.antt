@@ -9,7 +9,7 @@ use Rattle.terms.specs.declared.OperatorRead.the-variants.{Valid, Invalid}
 use Rattle.terms.specs.declared.Tested.{Tested}
 use Rattle.terms.specs.declared.Tested.the-variants as Tested
 use Rattle.terms.specs.Otherwise.{readTested, orElse}
-use Rattle.terms.specs.Refusals.{test, tested}
+use Rattle.refusals.specs.Refusals.{test, tested}
 use Rattle.records.specs.Formats.{isInvalid, allows, lengthsOf}
 use Rattle.records.specs.declared.Lengths.the-variants as Lengths
 

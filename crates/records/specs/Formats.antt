@@ -17,7 +17,7 @@ use Rattle.terms.specs.declared.Question.{Question}
 use Rattle.terms.specs.declared.Question.the-variants as Question
 use Rattle.terms.specs.Countings.{isCounting, countingOf}
 use Rattle.terms.specs.Operators.{operatorOf, orIdentity}
-use Rattle.terms.specs.Refusals.{rank}
+use Rattle.refusals.specs.Refusals.{rank}
 use Rattle.records.specs.declared.Lengths.{Lengths}
 use Rattle.records.specs.declared.Lengths.the-variants as Lengths
 

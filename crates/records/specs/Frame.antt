@@ -13,7 +13,7 @@ use Rattle.terms.specs.declared.Settings.{Settings}
 use Rattle.terms.specs.declared.Tested.{Tested}
 use Rattle.terms.specs.declared.Tested.the-variants as Tested
 use Rattle.terms.specs.Tests.{true-of}
-use Rattle.terms.specs.Refusals.{rank, test, tested}
+use Rattle.refusals.specs.Refusals.{rank, test, tested}
 use Rattle.terms.specs.Otherwise.{onTested}
 use Rattle.records.specs.declared.Lengths.{Lengths}
 use Rattle.records.specs.declared.Lengths.the-variants as Lengths

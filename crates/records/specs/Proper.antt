@@ -35,7 +35,7 @@ use Rattle.terms.specs.Holes.{isHole}
 use Rattle.terms.specs.Held.{isNamed, isRule, isMark, isMarkable, isPlaced, isOrdered, isQuestion}
 use Rattle.terms.specs.Ends.{top-placed, bottom-placed}
 use Rattle.terms.specs.Same.{kindOf}
-use Rattle.terms.specs.Refusals.{test, tested}
+use Rattle.refusals.specs.Refusals.{test, tested}
 use Rattle.terms.specs.Tests.{and-both, both-and}
 use Rattle.records.specs.declared.Command.{Command}
 use Rattle.records.specs.declared.Command.the-variants as Command

@@ -14,7 +14,7 @@ use Rattle.terms.specs.declared.Settings.{Settings}
 use Rattle.terms.specs.declared.Tested.{Tested}
 use Rattle.terms.specs.Limits.{isDepth}
 use Rattle.terms.specs.Held.{isNamed, isMarkable, isPlaced, isOrdered, isQuestion}
-use Rattle.terms.specs.Refusals.{Test, test, tested}
+use Rattle.refusals.specs.Refusals.{Test, test, tested}
 use Rattle.terms.specs.Otherwise.{onTested}
 use Rattle.records.specs.declared.Command.{Command}
 use Rattle.records.specs.declared.Command.the-variants as Command

@@ -6,7 +6,7 @@ ghost use Prim.Native.Nat.{_+_};
 ghost use lib.Dec.{T};
 ghost use lib.ListN.{length};
 ghost use Rattle.terms.specs.Held.{isNamed};
-ghost use Rattle.terms.specs.Refusals.{test, tested as testedBy};
+ghost use Rattle.refusals.specs.Refusals.{test, tested as testedBy};
 ghost use Rattle.terms.specs.Otherwise.{orElse};
 ghost use Rattle.records.specs.declared.Command.the-variants as To;
 ghost use Rattle.records.specs.Records.{markTests, asRule, asOperatorRule, asPut, asTake, asCounting, asHole, asQuestion, kindTests};

@@ -22,8 +22,7 @@ use Rattle.terms.specs.Readings.{bits-one}
 use Rattle.terms.specs.Same.{sameRule, sameOperator, sameMark, sameDepth, kindOf, firstOf, secondOf, thirdOf}
 use Rattle.terms.specs.Held.{operatorIn, isMarkable}
 use Rattle.terms.specs.Ends.{mark-markable, top-placed, bottom-placed}
-use Rattle.terms.specs.Names.{label-names, link-names}
-use Rattle.terms.specs.Entailed.{markable-statement}
+use Rattle.terms.specs.Names.{label-names, link-names, markable-statement}
 use Rattle.terms.specs.SameLaws.{same-rule, same-mark, mark-same, same-depth, depth-same}
 use Rattle.scans.specs.Keys.{packedFields, tagOf, ruleKey, depthKey, ATOM-ROOM, END-ROOM, atomNumber, endNumber, markKey}
 use Rattle.scans.specs.Keys.{Bytes, ByteRule, MarkFits, DepthFits}

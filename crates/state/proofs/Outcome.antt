@@ -14,7 +14,7 @@ use Rattle.terms.specs.declared.Tested.the-variants as Tested
 use Rattle.terms.specs.Limits.{RULES, MARKS, DEPTHS}
 use Rattle.terms.specs.Holes.{liesIn}
 use Rattle.terms.specs.Held.{Held, holeIn, endsOf}
-use Rattle.terms.specs.Refusals.{Test, test, tested}
+use Rattle.refusals.specs.Refusals.{Test, test, tested}
 use Rattle.terms.specs.Otherwise.{onTested}
 use Rattle.terms.specs.Same.{sameRule, sameMark}
 use Rattle.terms.specs.Lists.{some, depthCount}

@@ -8,7 +8,7 @@ use Rattle.terms.specs.declared.Mark.{Mark}
 use Rattle.terms.specs.Limits.{RULES, MARKS, DEPTHS}
 use Rattle.terms.specs.Holes.{liesIn}
 use Rattle.terms.specs.Held.{Held, holeIn, endsOf, withRules, withMarks}
-use Rattle.terms.specs.Refusals.{Test, test}
+use Rattle.refusals.specs.Refusals.{Test, test}
 use Rattle.terms.specs.Same.{sameRule, sameMark}
 use Rattle.terms.specs.Lists.{some, strike, depthCount}
 

@@ -8,7 +8,7 @@ use Rattle.terms.specs.Held.{Held, freshSettings}
 use Rattle.terms.specs.Places.{emptyMark, emptyPlace, heldIn}
 use Rattle.state.specs.declared.State.{State}
 use Rattle.state.specs.declared.Listed.{Listed}
-use Rattle.terms.specs.Refusals.{Test, tested}
+use Rattle.refusals.specs.Refusals.{Test, tested}
 use Rattle.terms.specs.Otherwise.{onTested}
 
 abbrev pub heldOf : State → Held

@@ -9,7 +9,7 @@ ghost use Rattle.terms.specs.declared.Hole.the-variants as Bored;
 ghost use Rattle.terms.specs.Held.{withCounting, withHole, isMark};
 ghost use Rattle.terms.specs.Places.{Marks-named};
 ghost use Rattle.terms.specs.Lists.{limits};
-ghost use Rattle.terms.specs.Refusals.{tested as testedBy};
+ghost use Rattle.refusals.specs.Refusals.{tested as testedBy};
 ghost use Rattle.state.specs.State.{Counts-in, heldOf, emptyState, Listed-as};
 ghost use Rattle.state.specs.Changes.{ruleTests, roomTests, putTests, takeTests, countTests, confineTests, addRule, putMark, takeMark};
 ghost use Rattle.state.specs.Holding.{Holds};

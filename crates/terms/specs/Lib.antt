@@ -2,7 +2,6 @@ pub mod Order
 pub mod Tests
 pub mod Limits
 pub mod Stated
-pub mod Refusals
 pub mod Otherwise
 pub mod Countings
 pub mod Operators
@@ -18,15 +17,6 @@ pub mod Places
 pub mod Ends
 pub mod Lists
 pub mod Limited
-pub mod Ranks
-pub mod Model
-pub mod Transfer
 pub mod Counted
-pub mod Depths
-pub mod Nearness
-pub mod Sets
-pub mod Interpretations
-pub mod Entailed
 pub mod Spans
 pub mod HoleLaws
-pub mod Inside

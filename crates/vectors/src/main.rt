@@ -13,7 +13,7 @@ ghost use mathlib.Core.Path.{_≡_};
 ghost use Prim.Native.Nat.{_+_, _≤_, _<_};
 ghost use lib.ListN.{length};
 ghost use Rattle.vectors.specs.Sizes.{BLOCK-ROOM, LABEL-ROOM, LINK-ROOM, SPAN-ROOM};
-use service::Reply;
+use commands::Reply;
 
 const BLOCK_ROOM: usize = 5120;
 

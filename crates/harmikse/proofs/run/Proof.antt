@@ -6,7 +6,7 @@ use native.Mathlib.Omega.{arith}
 use lib.ListN.{length}
 use Rattle.terms.specs.Limits.{LABEL-ENTRIES, LINK-ENTRIES, SPAN-NUMBERS}
 use Rattle.block.specs.Layout.{SIZE}
-use Rattle.service.specs.Buffers.{lent}
+use Rattle.commands.specs.Buffers.{lent}
 use Rattle.harmikse.specs.Code.{Runs}
 use Rattle.harmikse.proofs.Stepped.{begins, falls}
 use borrow.Author.Needs.{needs}

@@ -1,7 +1,7 @@
 -- The service's call with the names as bytes, its answer packed. Assumes nothing.
 use mathlib.Core.Path.{_∙_, ap₂}
-use Rattle.service.specs.Call.{spanCall}
-use Rattle.service.specs.Buffers.{lent}
+use Rattle.commands.specs.Call.{spanCall}
+use Rattle.commands.specs.Buffers.{lent}
 use Rattle.panel.specs.ExportedLaws.{span-packs}
 use borrow.Author.Needs.{needs}
 use Rattle.panel.proofs.harmikse_spans.Statement.{statement}

@@ -1,4 +1,4 @@
--- `reader::frame_at` meets its contract: before the end what is left is passed to `records::frame`, and from the end on nothing is left. Assumes nothing.
+-- `reader::frame_at` meets its contract: from the end on nothing is left, and before it what is left is passed to `records::frame`. Assumes nothing.
 use mathlib.Core.Path.{sym, ap, _∙_}
 use Prim.Native.Nat.{_-_}
 use native.Mathlib.Omega.{arith}
@@ -22,14 +22,14 @@ frame-requires : tie.Need-frame-requires
 frame-requires c κs = search needs
 
 returns : tie.Need-returns
-returns c =
+unfolding framed
+returns c = ap framed (sym (drop-of-length-le (c .before .before .args .src .now) (c .if1 .taken)))
+
+returns-2 : tie.Need-returns-2
+returns-2 c =
     let s = c .before .before .before .before .args .src .now in
     let at = c .before .before .before .before .args .at in
     c .frame .ensures ∙ ap framed (take-all (length s - at) (drop at s) (omega (arith, length-drop at s)))
 
-returns-2 : tie.Need-returns-2
-unfolding framed
-returns-2 c = ap framed (sym (drop-of-length-le (c .before .before .args .src .now) (c .if1 .left)))
-
 pub frame-at-spec : {M : Type 1} → statement M
-frame-at-spec = tie.close (tie.spec sub-frame part-frame-start part-frame-end frame-requires returns returns-2)
+frame-at-spec = tie.close (tie.spec returns sub-frame part-frame-start part-frame-end frame-requires returns-2)

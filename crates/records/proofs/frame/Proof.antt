@@ -1,13 +1,13 @@
 -- The tests of the frame in their order. Assumes nothing.
-use mathlib.Core.Path.{_≡_, sym, ap, _∙_}
-use Prim.Native.Nat.{_+_, _-_, _≤_}
+use mathlib.Core.Path.{sym}
+use Prim.Native.Nat.{_-_, _≤_}
 use native.Mathlib.Omega.{arith}
 use borrow.Author.Tests.{lt-ltb, le-ltb, eq-eqb, ne-eqb}
 use lib.ListN.{length}
 use Rattle.codec.specs.Bytes.{little}
-use Rattle.terms.specs.Refusals.{rank}
+use Rattle.refusals.specs.Refusals.{rank}
 use Rattle.records.specs.Records.{framed}
-use Rattle.records.specs.Frame.{framedAs, frame-kind}
+use Rattle.records.specs.Frame.{frame-kind}
 use borrow.Author.Needs.{needs}
 use Rattle.records.proofs.frame.Statement.{statement}
 use Rattle.records.proofs.frame.Tie as tie

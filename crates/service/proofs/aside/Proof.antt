@@ -4,9 +4,10 @@ use mathlib.Core.List.{[]}
 use Rattle.state.specs.State.{heldOf}
 use Rattle.records.specs.declared.Decoded.{Decoded}
 use Rattle.records.specs.Records.{parsedBody}
-use Rattle.service.specs.Call.{judged, effect}
-use Rattle.service.specs.Buffers.{lent}
-use Rattle.service.proofs.Lending.{parts, questioned, asked-for}
+use Rattle.commands.specs.Call.{judged, effect}
+use Rattle.commands.specs.Buffers.{lent}
+use Rattle.commands.proofs.Working.{parts, questioned}
+use Rattle.service.proofs.Lending.{asked-for}
 use borrow.Author.Needs.{needs}
 use Rattle.service.proofs.aside.Statement.{statement}
 use Rattle.service.proofs.aside.Tie as tie

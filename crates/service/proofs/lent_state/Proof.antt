@@ -1,7 +1,7 @@
 -- The lengths, then the block.
 use mathlib.Core.Path.{sym, _∙_}
 use lib.ListN.{length}
-use Rattle.service.specs.Code.{enough}
+use Rattle.commands.specs.Code.{enough}
 use Rattle.service.proofs.Lending.{short-as, loaded-as}
 use borrow.Author.Needs.{needs}
 use Rattle.service.proofs.lent_state.Statement.{statement}

@@ -10,11 +10,13 @@ use Rattle.records.specs.Parsed as Parsed
 use Rattle.records.specs.Records.{parse}
 use Rattle.records.specs.Formats.{bodyOf}
 use Rattle.records.specs.Proper.{parse-proper}
-use Rattle.service.specs.declared.Input.{Input}
-use Rattle.service.specs.Call.{judged, effect, call}
-use Rattle.service.specs.Buffers.{lent}
-use Rattle.service.specs.Code.{parsedOf}
-use Rattle.service.proofs.Lending.{parts, lent-refused, body-at, body-room, call-read}
+use Rattle.reader.specs.declared.Input.{Input}
+use Rattle.commands.specs.Call.{judged, effect, call}
+use Rattle.commands.specs.Buffers.{lent}
+use Rattle.reader.specs.Code.{parsedOf}
+use Rattle.reader.proofs.Reading.{body-at, body-room}
+use Rattle.commands.proofs.Working.{parts}
+use Rattle.service.proofs.Lending.{lent-refused, call-read}
 use borrow.Author.Needs.{needs}
 use Rattle.service.proofs.record_at.Statement.{statement}
 use Rattle.service.proofs.record_at.Tie as tie

@@ -5,9 +5,10 @@ use mathlib.Core.List.{[]}
 use Rattle.terms.specs.declared.Question.the-variants as Question
 use Rattle.terms.specs.Held.{Held}
 use Rattle.records.specs.Records.{asQuestion, parsedBody}
-use Rattle.service.specs.Call.{judged, effect, spanCall}
-use Rattle.service.specs.Buffers.{lent}
-use Rattle.service.proofs.Lending.{parts, lent-passed, lent-refused}
+use Rattle.commands.specs.Call.{judged, effect, spanCall}
+use Rattle.commands.specs.Buffers.{lent}
+use Rattle.commands.proofs.Working.{parts}
+use Rattle.service.proofs.Lending.{lent-passed, lent-refused}
 use borrow.Author.Needs.{needs}
 use Rattle.service.proofs.spans_of.Statement.{statement}
 use Rattle.service.proofs.spans_of.Tie as tie

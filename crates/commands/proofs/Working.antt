@@ -1,0 +1,65 @@
+-- What a command leaves is what it comes to. Assumes nothing.
+use mathlib.Core.Path.{_≡_, refl, sym, ap, _∙_}
+use mathlib.Core.List.{List, _++_}
+use Prim.Native.Nat.{ℕ, _+_, _-_}
+use lib.IntN.{ℤ}
+use lib.ListN.{drop}
+use Rattle.terms.specs.declared.Answer.{Answer}
+use Rattle.terms.specs.declared.Answer.the-variants as Answer
+use Rattle.terms.specs.declared.Question.{Question}
+use Rattle.terms.specs.declared.Tested.{Tested}
+use Rattle.terms.specs.declared.Tested.the-variants as Tested
+use Rattle.refusals.specs.Refusals.{Test, tested}
+use Rattle.terms.specs.Otherwise.{onTested}
+use Rattle.terms.specs.Held.{Held}
+use Rattle.state.specs.declared.Listed.{Listed}
+use Rattle.state.specs.State.{heldOf, Listed-as}
+use Rattle.block.specs.Layout.{SIZE, encode}
+use Rattle.records.specs.declared.Command.{Command}
+use Rattle.records.specs.Parsed.{Parsed}
+use Rattle.records.specs.Parsed as Parsed
+use Rattle.decide.specs.Answer.{answer}
+use Rattle.commands.specs.declared.Reply as Code
+use Rattle.commands.specs.Call.{Refused, Changed, Asked, judged, effect}
+use Rattle.commands.specs.Buffers.{Buffers, lent, After, after, afterOf}
+use Rattle.questions.specs.Code.{Answered-as}
+use Rattle.commands.specs.Code.{Kept-as, replied-is}
+
+-- what is given back, part by part
+pub parts :
+    {a a′ : Answer} {u u′ : ℕ} {b b′ t t′ k k′ : List ℕ} {s s′ : List ℤ} → a′ ≡ a → u′ ≡ u → b′ ≡ b → t′ ≡ t → k′ ≡ k → s′ ≡ s →
+    after a′ u′ (lent b′ t′ k′ s′) ≡ after a u (lent b t k s)
+parts a u b t k s = λ i. after (a i) (u i) (lent (b i) (t i) (k i) (s i))
+
+module _ (b t k : List ℕ) (s : List ℤ) where
+  abbrev m : Buffers
+  m = lent b t k s
+
+  -- a list operation, by what its tests came to
+  pub changed :
+      (h then : Held) (tests : List Test) (u : ℕ) (l : Listed) (b′ : List ℕ) (r : Code.Reply) → Listed-as tests h then l → Kept-as l u b b′ r →
+      afterOf r b′ t k s ≡ effect h m (onTested (Changed then u) (λ n. Refused n u) (tested tests))
+  changed h then tests u l b′ r L K = go (tested tests) (L .said) (L .held)
+    where
+      go : (v : Tested) → l .tested ≡ v → heldOf (l .state) ≡ onTested then (λ n. h) v →
+          afterOf r b′ t k s ≡ effect h m (onTested (Changed then u) (λ n. Refused n u) v)
+      go Tested.Passed e f =
+          let kept : List ℕ = encode (heldOf (l .state)) ++ drop SIZE b in
+          parts (K .said ∙ ap (onTested Answer.Done Answer.Refused) e) (K .bytes)
+          (K .block ∙ ap (onTested kept (λ n. b)) e ∙ ap (λ (x : Held). encode x ++ drop SIZE b) f) refl refl refl
+      go (Tested.Refused n) e f =
+          let kept : List ℕ = encode (heldOf (l .state)) ++ drop SIZE b in
+          parts (K .said ∙ ap (onTested Answer.Done Answer.Refused) e) (K .bytes) (K .block ∙ ap (onTested kept (λ n. b)) e) refl refl refl
+
+  -- a question
+  pub questioned :
+      (h : Held) (q : Question) (u : ℕ) (t′ k′ : List ℕ) (s′ : List ℤ) (a : Answer) → Answered-as h q t k s t′ k′ s′ a →
+      after a u (lent b t′ k′ s′) ≡ effect h m (Asked q u)
+  questioned h q u t′ k′ s′ a A =
+      parts (A .said) refl refl (A .tables .label-table) (A .tables .link-table) (A .buffer) ∙ sym (replied-is h m u (answer h q))
+
+  -- the work of a command, by which it is
+  pub as-command :
+      (h : Held) (body : List ℕ) (u : ℕ) {x : After} (c d : Command) → c ≡ d → x ≡ effect h m (judged h (Parsed.Record d body u)) →
+      x ≡ effect h m (judged h (Parsed.Record c body u))
+  as-command h body u c d e f = f ∙ ap (λ (y : Command). effect h m (judged h (Parsed.Record y body u))) (sym e)

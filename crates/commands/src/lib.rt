@@ -1,0 +1,92 @@
+// The work of a command on what is held: refused, stored, or answered.
+ghost use mathlib.Core.Path.{_≡_};
+ghost use Prim.Native.Nat.{_≤_};
+ghost use lib.Dec.{T};
+ghost use lib.ListN.{length};
+ghost use Rattle.terms.specs.declared.Answer.the-variants as Answer;
+ghost use Rattle.state.specs.State.{heldOf, Counts-in};
+ghost use Rattle.block.specs.Layout.{SIZE};
+ghost use Rattle.records.specs.Parsed as Parsed;
+ghost use Rattle.records.specs.Proper.{Proper};
+ghost use Rattle.questions.specs.Code.{Held-state};
+ghost use Rattle.commands.specs.Call.{judged, effect};
+ghost use Rattle.commands.specs.Buffers.{lent, afterOf};
+ghost use Rattle.commands.specs.Code.{Enough, Kept-as};
+use records::Command;
+use state::Listed;
+use state::State;
+use terms::Answer;
+use terms::Tested;
+
+// The answer and the bytes used.
+pub struct Reply {
+    pub answer: Answer,
+    pub used: usize,
+}
+
+pub fn refused(number: u8, used: usize) -> Reply
+    ensures { λ r. ⌜ (r .answer ≡ Answer.Refused number) × (r .used ≡ used) ⌝ }
+{
+    Reply {
+        answer: Answer::Refused(number),
+        used,
+    }
+}
+
+fn done(used: usize) -> Reply
+    ensures { λ r. ⌜ (r .answer ≡ Answer.Done) × (r .used ≡ used) ⌝ }
+{
+    Reply {
+        answer: Answer::Done,
+        used,
+    }
+}
+
+// A list operation: refused, or stored.
+fn keep(block: &mut [u8], listed: Listed, used: usize) -> Reply
+    requires { ⌜ Counts-in (listed .state) × (SIZE ≤ length (now block)) ⌝ }
+    ensures { λ r. ⌜ Kept-as listed used (now (block .entry)) (now (block .exit)) r ⌝ }
+{
+    let tested = listed.tested;
+    let state = listed.state;
+    match tested {
+        Tested::Passed => {
+            block::store(block, state);
+            done(used)
+        }
+        Tested::Refused(number) => refused(number, used),
+    }
+}
+
+// The work of a command, with its body beside it, on what is held.
+pub fn work(
+    command: Command,
+    body: &[u8],
+    state: State,
+    block: &mut [u8],
+    labels: &mut [u64],
+    links: &mut [u8],
+    spans: &mut [i32],
+    used: usize,
+) -> Reply
+    requires { ⌜ Held-state state × T (Proper command) × Enough (length (now block)) (length (now labels)) (length (now links)) (length (now spans)) ⌝ }
+    ensures { λ r. ⌜ afterOf r (now (block .exit)) (now (labels .exit)) (now (links .exit)) (now (spans .exit))
+        ≡ effect (heldOf state) (lent (now (block .entry)) (now (labels .entry)) (now (links .entry)) (now (spans .entry)))
+        (judged (heldOf state) (Parsed.Record command (now (body .entry)) used)) ⌝ }
+{
+    match command {
+        Command::Reset => {
+            block::store(block, State::empty());
+            done(used)
+        }
+        Command::Add(rule) => keep(block, state.with_rule(rule), used),
+        Command::Put(mark) => keep(block, state.put(mark), used),
+        Command::Take(mark) => keep(block, state.take(mark), used),
+        Command::Count(counting) => keep(block, state.count(counting), used),
+        Command::Confine(top, bottom) => keep(block, state.confine(top, bottom), used),
+        Command::Ask(question) => {
+            let answer = questions::answer(state, labels, links, spans, question);
+            Reply { answer, used }
+        }
+    }
+}
