@@ -1,7 +1,8 @@
 /*
  * A host program: lends its memory to the library, feeds it a small section record by record and prints what it says.
  * The section is the worked example of the specification, then a question beside the records, calls with null pointers
- * where the length is 0, a mark with top and bottom, a rule list by the new counting, and at last a hole with two ends.
+ * where the length is 0, a mark with top and bottom, a rule list by the new counting, a hole with two ends, and at last
+ * a pad of two wells, one of them contradictory.
  */
 #include <harmikse.h>
 
@@ -96,11 +97,30 @@ static void put_stretch(uint8_t item, uint8_t label, int32_t top, int32_t bottom
     put_number((uint32_t)bottom, 4);
 }
 
+/* A record of kind 7 puts a link, one of kind 9 takes it. */
+static void link_mark(int record, uint8_t from, uint8_t kind, uint8_t to, int32_t depth)
+{
+    begin(record, 7);
+    put_number(from, 1);
+    put_number(kind, 1);
+    put_number(to, 1);
+    put_number((uint32_t)depth, 4);
+}
+
 static void query_label(uint8_t item, uint8_t label, int64_t depth)
 {
     begin(10, 10);
     put_number(item, 1);
     put_number(label, 1);
+    put_number((uint64_t)depth, 8);
+}
+
+static void query_link(uint8_t from, uint8_t kind, uint8_t to, int64_t depth)
+{
+    begin(11, 11);
+    put_number(from, 1);
+    put_number(kind, 1);
+    put_number(to, 1);
     put_number((uint64_t)depth, 8);
 }
 
@@ -135,6 +155,14 @@ static void print_result(uint32_t result)
         print_depth(spans[2 * i + 1], HARMIKSE_NO_BOTTOM);
     }
     printf("\n");
+}
+
+/* Asks for spans without a record. */
+static void ask_beside(uint32_t item, uint32_t label)
+{
+    printf("beside the records: ");
+    print_result(harmikse_spans(block, sizeof block, labels, HARMIKSE_LABEL_ENTRIES, links, sizeof links, spans,
+                                HARMIKSE_SPAN_NUMBERS, item, label));
 }
 
 /* A pointer whose length is 0 may be null: no input is the end, and no memory is too little. */
@@ -210,6 +238,36 @@ static void write_hole(void)
     put_label(0, 1, 3001);
 }
 
+/*
+ * Two wells, items 0 and 1, and their pumps, items 2 and 3, each with a link from the pump to its well. Labels 2 and 3
+ * can't be at the same depth (63 is NEVER), and well 1 has both at 340. That well is contradictory, and with it its
+ * pump, which the link joins to it; well 0 and its pump are answered. A link question is about both its ends.
+ */
+static void write_pad(void)
+{
+    reset();
+    add_both(2, 3, 63);
+    put_label(0, 1, 100);
+    put_label(1, 2, 340);
+    put_label(1, 3, 340);
+    link_mark(7, 2, 0, 0, 10);
+    link_mark(7, 3, 0, 1, 10);
+    query_label(0, 1, 100);
+    ask_spans(0, 1);
+    query_label(1, 1, 100);
+    ask_spans(3, 1);
+    query_link(2, 0, 0, 10);
+    query_link(2, 0, 3, 10);
+}
+
+/* Without the link well 1 is as it was, and its pump is answered. */
+static void write_parted(void)
+{
+    link_mark(9, 3, 0, 1, 10);
+    ask_spans(1, 1);
+    ask_spans(3, 0);
+}
+
 /* Hands over what is left of the stream, record by record; fails where a record is not used. */
 static int feed(void)
 {
@@ -235,9 +293,7 @@ int main(void)
     write_section();
     if (feed() != 0)
         return 1;
-    printf("beside the records: ");
-    print_result(harmikse_spans(block, sizeof block, labels, HARMIKSE_LABEL_ENTRIES, links, sizeof links, spans,
-                                HARMIKSE_SPAN_NUMBERS, 0, 0));
+    ask_beside(0, 0);
     if (lend_nothing() != 0)
         return 1;
     write_stretch();
@@ -247,5 +303,13 @@ int main(void)
     if (feed() != 0)
         return 1;
     write_hole();
+    if (feed() != 0)
+        return 1;
+    write_pad();
+    if (feed() != 0)
+        return 1;
+    ask_beside(0, 1);
+    ask_beside(3, 1);
+    write_parted();
     return feed();
 }

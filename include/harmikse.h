@@ -42,6 +42,14 @@
  * refused with 17, whichever hole it gives; rules don't matter. A later hole replaces the one before, and it stays when
  * the last mark is taken. The empty state has no hole, and RESET goes back to that.
  *
+ * Contradiction: a question is about its item, a link question about both its ends. Items are joined where a chain of
+ * links leads from one to the other, held or derived, of any kind, followed either way, at any depths; an item is
+ * joined to itself. A question is answered contradiction exactly if an item joined to one that it is about has NEVER
+ * at some depth, and names the lowest item that has NEVER among those joined, which need not be the one asked about.
+ * Otherwise yes, no and spans are those of the joined items alone: marks on items that are joined to none that the
+ * question is about, neither before nor after they are put or taken, alter no answer to it, list limits aside. Both
+ * tables show all items, whatever is joined: bit 63 of a label entry says which items have NEVER, and where.
+ *
  * Stack: leave 176 KiB for a call (HARMIKSE_STACK_BYTES).
  *
  * Refusals leave all lent memory unchanged. After a question (yes, no, contradiction, spans) both tables show what the
@@ -82,7 +90,7 @@ enum harmikse_answer {
     HARMIKSE_DONE = 0,
     HARMIKSE_YES = 1,
     HARMIKSE_NO = 2,
-    HARMIKSE_CONTRADICTION = 3, /* value: the lowest item that has NEVER */
+    HARMIKSE_CONTRADICTION = 3, /* value: the lowest item that has NEVER of those joined to the question's */
     HARMIKSE_SPANS = 4,         /* value: how many pairs were written */
     HARMIKSE_END = 5,           /* no byte was left, and neither 1 nor 2 applies */
     HARMIKSE_REFUSED = 6        /* value: one of the numbers below */

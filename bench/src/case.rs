@@ -5,7 +5,7 @@ use model::block::SIZE;
 use model::frame::bytes;
 use model::held::Held;
 use model::service::{Lent, Memory};
-use model::terms::{Answer, Mark, Record};
+use model::terms::{Answer, Fact, Mark, Record};
 use panel::{Empty, Numbers};
 
 /// What is measured.
@@ -101,6 +101,11 @@ impl Case {
         bench.done(&bytes(&Record::Take(section.marks[0])));
         let short = bench.memory.block.clone();
         Case::with_blocks(section, full, short)
+    }
+
+    /// What the question is about.
+    pub fn asked(&self) -> Fact {
+        self.section.marks[0].fact
     }
 
     /// Both blocks as bytes, so that a later run need not load the section again.

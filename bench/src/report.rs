@@ -8,8 +8,7 @@ use crate::clock;
 use crate::naive::Tables;
 use model::held::Held;
 use model::service::Memory;
-use model::tables::PIECES;
-use model::terms::{Answer, Rule, NEVER};
+use model::terms::{Answer, Fact, Rule};
 use panel::Numbers;
 
 /// Each time is the best of this many.
@@ -19,7 +18,10 @@ const ROUNDS: usize = 8;
 struct Measured {
     best: [Duration; Operation::ALL.len()],
     passes: usize,
+    /// An item has NEVER.
     contradiction: bool,
+    /// One that is joined to what the question is about has it.
+    told: bool,
 }
 
 fn timed(case: &Case, operation: Operation, bench: &mut Bench) -> (Duration, Numbers) {
@@ -29,19 +31,16 @@ fn timed(case: &Case, operation: Operation, bench: &mut Bench) -> (Duration, Num
     (clock::now() - start, answer)
 }
 
-/// What the operation has to answer: the question is about a mark, which is yes unless NEVER was derived.
-fn expected(operation: Operation, tables: &Tables) -> Answer {
+/// What the operation has to answer: the question is about a mark, which is yes unless an item joined to it has NEVER.
+fn expected(operation: Operation, tables: &Tables, asked: Fact) -> Answer {
     match operation {
         Operation::Naive | Operation::Put => Answer::Done,
         Operation::Load => Answer::End,
-        _ => contradiction(tables).unwrap_or(Answer::Yes),
+        _ => match tables.contradiction(asked) {
+            Some(item) => Answer::Contradiction(item as u32),
+            None => Answer::Yes,
+        },
     }
-}
-
-fn contradiction(tables: &Tables) -> Option<Answer> {
-    let mut entries = tables.labels.iter();
-    let place = entries.position(|entry| entry >> NEVER & 1 == 1);
-    place.map(|place| Answer::Contradiction((place / PIECES) as u32))
 }
 
 fn same_tables(naive: &Tables, memory: &Memory) -> bool {
@@ -53,7 +52,10 @@ fn round(case: &Case, bench: &mut Bench, order: &[usize], best: &mut [Duration])
     for &place in order {
         let operation = Operation::ALL[place];
         let (time, answer) = timed(case, operation, bench);
-        assert_eq!(answer, expected(operation, &bench.naive).numbers());
+        assert_eq!(
+            answer,
+            expected(operation, &bench.naive, case.asked()).numbers()
+        );
         best[place] = time.min(best[place]);
     }
     let same = same_tables(&bench.naive, &bench.memory);
@@ -71,7 +73,8 @@ fn measure(case: &Case, bench: &mut Bench) -> Measured {
     Measured {
         best,
         passes: bench.naive.derive(&case.section),
-        contradiction: contradiction(&bench.naive).is_some(),
+        contradiction: (0..16).any(|item| bench.naive.has_never(item)),
+        told: bench.naive.contradiction(case.asked()).is_some(),
     }
 }
 
@@ -129,11 +132,12 @@ fn stretches_of(section: &Held) -> usize {
 /// What the sections of one set are like.
 fn print_sections(name: &str, cases: &[Case], all: &[Measured]) {
     let contradictions = all.iter().filter(|one| one.contradiction).count();
+    let told = all.iter().filter(|one| one.told).count();
     let (_, stretches, _) = spread(cases.iter().map(|case| stretches_of(&case.section)));
     let (fewest, depths, most_depths) = spread(cases.iter().map(|case| case.section.ends().len()));
     let (least, median, most) = spread(all.iter().map(|one| one.passes));
     println!(
-        "{name}: {} sections, {contradictions} with a contradiction",
+        "{name}: {} sections, {contradictions} with a contradiction, {told} of them joined to the question",
         all.len()
     );
     println!("    stretches among 256 marks: median {stretches}");

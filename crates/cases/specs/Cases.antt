@@ -47,6 +47,10 @@ gives o ms rs = on (Label o 1 2 ∷ []) ms (Question.Spans 0 2) (Answered (Spans
 abbrev pub contrary : List Rule
 contrary = Label (Within 1) EVERY 1 ∷ Label (Within 1) 1 NEVER ∷ []
 
+-- label 1 may hold nowhere
+abbrev pub bad : List Rule
+bad = Label (Within 1) 1 NEVER ∷ []
+
 -- no marks, no rules: EVERY yes and label 1 no, of each item below n
 abbrev pub nothing : ℕ → List Case
 nothing zero = []
@@ -58,8 +62,8 @@ nothing (suc a) =
     ∷ nothing a
 
 -- link 0 from 0 to 1 at 10 and VIA 0 2 to 3, with label 2 on item 1 at this depth
-abbrev pub joined : ℤ → Question → Reply → Case
-joined i = on (Via 0 2 3 ∷ []) (link 0 0 1 (pos 10) ∷ label 1 2 i ∷ [])
+abbrev pub led : ℤ → Question → Reply → Case
+led i = on (Via 0 2 3 ∷ []) (link 0 0 1 (pos 10) ∷ label 1 2 i ∷ [])
 
 -- label A of item 0 from t to b
 abbrev pub stretch : ℕ → ℕ → ℕ → Mark
@@ -167,7 +171,7 @@ roped i r = hole (on (Link Anywhere 0 1 ∷ []) (link 0 0 1 (pos 100) ∷ []) (Q
 
 -- 02, Slip 5: each operator gives only depths inside, also from a mark at the hole's end, and EVERY holds at those alone; asked at an end and one
 -- outside it, EVERY and links at either, EVERY also far outside; rules on EVERY; without marks; of one depth; above 0, across it; the whole range;
--- in the place of another; by the new counting; contradiction above, below and far outside, of any item
+-- in the place of another; by the new counting; contradiction above, below and far outside
 abbrev pub holes : List Case
 holes =
     hole (gives Anywhere caliper (run (pos 95) (pos 130) ∷ []))
@@ -212,7 +216,105 @@ holes =
     ∷ hole (on contrary [] (Question.Holds (Has 0 1) (pos 94)) (Contradiction 0))
     ∷ hole (on contrary [] (Question.Holds (Linked 0 1 1) (pos (2 ^ 63 - 1))) (Contradiction 0))
     ∷ hole (on contrary [] (Question.Spans 0 1) (Contradiction 0))
-    ∷ hole (on (Label (Within 1) 1 NEVER ∷ []) (label 2 1 (pos 100) ∷ []) (Question.Holds (Has 0 1) (pos 131)) (Contradiction 2))
+    ∷ hole (on bad (label 2 1 (pos 100) ∷ []) (Question.Holds (Has 2 1) (pos 131)) (Contradiction 2))
+    ∷ []
+
+-- three wells of a pad. Item 2 has label 1 at 100; 3 leads to 2 at 50 and to 5 at 60, by links of two kinds. Item 7 has label 4 at 10. Item 8 leads to 9,
+-- which has label 4 at 30
+abbrev pub pad : List Mark
+pad = label 2 1 (pos 100) ∷ link 3 0 2 (pos 50) ∷ link 3 1 5 (pos 60) ∷ label 7 4 (pos 10) ∷ link 8 0 9 (pos 20) ∷ label 9 4 (pos 30) ∷ []
+
+-- without the link from 3 to 5
+abbrev pub parted : List Mark
+parted = strike (sameMark (link 3 1 5 (pos 60))) pad
+
+-- items 0 to 3 in a chain that is followed along, against and along; item 3 has label 1
+abbrev pub chain : List Mark
+chain = link 0 0 1 (pos 5) ∷ link 2 1 1 (pos 6) ∷ link 2 0 3 (pos 7) ∷ label 3 1 (pos 8) ∷ []
+
+-- a loop of 0, 1 and 2, of which 2 has label 1
+abbrev pub loop : List Mark
+loop = link 0 0 1 (pos 5) ∷ link 1 0 2 (pos 6) ∷ link 2 0 0 (pos 7) ∷ label 2 1 (pos 8) ∷ []
+
+-- items 0 to 7 in a chain, each even item leads to the odd ones beside it, by links of seven kinds; item 7 has label 1
+abbrev pub long : List Mark
+long =
+    link 0 0 1 (pos 0)
+    ∷ link 2 1 1 (pos 1)
+    ∷ link 2 2 3 (pos 2)
+    ∷ link 4 3 3 (pos 3)
+    ∷ link 4 4 5 (pos 4)
+    ∷ link 6 5 5 (pos 5)
+    ∷ link 6 6 7 (pos 6)
+    ∷ label 7 1 (pos 20)
+    ∷ []
+
+-- the rule that gives NEVER to what leads anywhere by link 0
+abbrev pub tied-up : List Rule
+tied-up = Via 0 EVERY NEVER ∷ []
+
+-- asked of the pad with label 1 bad
+abbrev pub pad-at : Question → Reply → Case
+pad-at = on bad pad
+
+-- 02, Slip 7: each item for itself where all have NEVER; in the bad well each item, also 5, to which 3 leads as it does to 2, whatever is asked; the
+-- other wells answered, EVERY, NEVER and derived labels too; a link question about both its ends, and about one item; the link taken; one step along
+-- and against, several, seven, round a loop; by the last kind and item, by a stretch; the lowest item with NEVER, not the lowest joined, at either
+-- end; two of them joined and a third not; NEVER of the item that the link leads from, and of one that leads to itself; links of a LINKRULE; in a
+-- hole, inside and outside it
+abbrev pub pads : List Case
+pads =
+    on contrary [] (Question.Holds (Has 5 1) (pos 0)) (Contradiction 5)
+    ∷ on contrary [] (Question.Spans 5 1) (Contradiction 5)
+    ∷ on contrary [] (Question.Holds (Linked 9 0 5) (pos 0)) (Contradiction 5)
+    ∷ pad-at (Question.Holds (Has 2 4) (pos 0)) (Contradiction 2)
+    ∷ pad-at (Question.Holds (Has 3 4) (pos 0)) (Contradiction 2)
+    ∷ pad-at (Question.Holds (Has 5 4) (pos 0)) (Contradiction 2)
+    ∷ pad-at (Question.Holds (Has 5 EVERY) (pos 0)) (Contradiction 2)
+    ∷ pad-at (Question.Holds (Has 5 NEVER) (pos 0)) (Contradiction 2)
+    ∷ pad-at (Question.Spans 5 4) (Contradiction 2)
+    ∷ pad-at (Question.Holds (Linked 3 0 2) (pos 50)) (Contradiction 2)
+    ∷ pad-at (Question.Holds (Linked 5 0 5) (pos 0)) (Contradiction 2)
+    ∷ pad-at (Question.Holds (Has 7 4) (pos 10)) (Answered Yes)
+    ∷ pad-at (Question.Holds (Has 7 4) (pos 11)) (Answered No)
+    ∷ pad-at (Question.Holds (Has 7 EVERY) (pos 0)) (Answered Yes)
+    ∷ pad-at (Question.Holds (Has 7 NEVER) (pos 100)) (Answered No)
+    ∷ pad-at (Question.Spans 7 4) (Answered (Spans (run (pos 10) (pos 10) ∷ [])))
+    ∷ pad-at (Question.Spans 7 NEVER) (Answered (Spans []))
+    ∷ pad-at (Question.Holds (Has 0 4) (pos 10)) (Answered No)
+    ∷ pad-at (Question.Spans 9 4) (Answered (Spans (run (pos 30) (pos 30) ∷ [])))
+    ∷ pad-at (Question.Holds (Linked 8 0 9) (pos 20)) (Answered Yes)
+    ∷ pad-at (Question.Holds (Linked 7 0 8) (pos 20)) (Answered No)
+    ∷ pad-at (Question.Holds (Linked 7 0 5) (pos 50)) (Contradiction 2)
+    ∷ pad-at (Question.Holds (Linked 5 0 7) (pos 50)) (Contradiction 2)
+    ∷ on (Via 0 4 5 ∷ bad) (label 9 4 (pos 20) ∷ pad) (Question.Spans 8 5) (Answered (Spans (run (pos 20) (pos 20) ∷ [])))
+    ∷ on (Link Anywhere 0 1 ∷ bad) pad (Question.Holds (Linked 8 1 9) (pos 0)) (Answered Yes)
+    ∷ on (Link Anywhere 0 1 ∷ bad) pad (Question.Holds (Linked 3 1 2) (pos 0)) (Contradiction 2)
+    ∷ on bad (link 7 0 7 (pos 10) ∷ pad) (Question.Holds (Linked 7 0 7) (pos 10)) (Answered Yes)
+    ∷ on bad parted (Question.Holds (Has 5 4) (pos 0)) (Answered No)
+    ∷ on bad parted (Question.Holds (Has 3 4) (pos 0)) (Contradiction 2)
+    ∷ on bad (link 1 0 9 (pos 5) ∷ label 9 1 (pos 6) ∷ []) (Question.Holds (Has 1 4) (pos 0)) (Contradiction 9)
+    ∷ on bad (link 9 0 1 (pos 5) ∷ label 9 1 (pos 6) ∷ []) (Question.Holds (Has 1 4) (pos 0)) (Contradiction 9)
+    ∷ on bad (link 15 7 0 (pos 5) ∷ label 15 1 (pos 6) ∷ []) (Question.Holds (Has 0 4) (pos 0)) (Contradiction 15)
+    ∷ on bad (record { atom = Linked 1 0 9; top = pos 10; bottom = pos 20 } ∷ label 9 1 (pos 200) ∷ []) (Question.Holds (Has 1 4) (pos 0)) (Contradiction 9)
+    ∷ on bad chain (Question.Holds (Has 0 4) (pos 0)) (Contradiction 3)
+    ∷ on bad chain (Question.Holds (Has 4 4) (pos 0)) (Answered No)
+    ∷ on bad long (Question.Holds (Has 0 4) (pos 0)) (Contradiction 7)
+    ∷ on bad loop (Question.Holds (Has 0 4) (pos 0)) (Contradiction 2)
+    ∷ on bad (label 9 1 (pos 5) ∷ link 9 0 4 (pos 5) ∷ label 4 1 (pos 6) ∷ label 1 1 (pos 6) ∷ []) (Question.Holds (Has 9 4) (pos 0)) (Contradiction 4)
+    ∷ on bad (label 4 1 (pos 5) ∷ link 4 0 9 (pos 5) ∷ label 6 1 (pos 6) ∷ []) (Question.Holds (Linked 6 0 9) (pos 0)) (Contradiction 4)
+    ∷ on bad (label 4 1 (pos 5) ∷ link 4 0 9 (pos 5) ∷ label 6 1 (pos 6) ∷ []) (Question.Holds (Linked 9 0 6) (pos 0)) (Contradiction 4)
+    ∷ on (Via 0 2 NEVER ∷ []) (link 0 0 1 (pos 10) ∷ label 1 2 (pos 10) ∷ []) (Question.Holds (Has 1 2) (pos 10)) (Contradiction 0)
+    ∷ on (Via 0 2 NEVER ∷ []) (link 0 0 1 (pos 10) ∷ label 1 2 (pos 11) ∷ []) (Question.Holds (Has 1 2) (pos 11)) (Answered Yes)
+    ∷ on tied-up (link 3 0 2 (pos 50) ∷ []) (Question.Holds (Has 2 4) (pos 0)) (Contradiction 3)
+    ∷ on tied-up (link 3 0 2 (pos 50) ∷ []) (Question.Holds (Has 7 4) (pos 0)) (Answered No)
+    ∷ on tied-up (link 7 0 7 (pos 50) ∷ []) (Question.Holds (Has 7 4) (pos 0)) (Contradiction 7)
+    ∷ on tied-up (link 7 0 7 (pos 50) ∷ []) (Question.Holds (Has 6 4) (pos 0)) (Answered No)
+    ∷ bored (pos 0) (pos 200) (pad-at (Question.Holds (Has 5 4) (pos 100)) (Contradiction 2))
+    ∷ bored (pos 0) (pos 200) (pad-at (Question.Holds (Has 7 4) (pos 10)) (Answered Yes))
+    ∷ bored (pos 0) (pos 200) (pad-at (Question.Spans 7 EVERY) (Answered (Spans (run (pos 0) (pos 200) ∷ []))))
+    ∷ bored (pos 0) (pos 200) (pad-at (Question.Holds (Has 5 4) (pos 201)) (Contradiction 2))
+    ∷ bored (pos 0) (pos 200) (pad-at (Question.Holds (Has 7 4) (pos 201)) (Answered No))
     ∷ []
 
 -- 01, Cases at the edges: those marked P, in its order but for the rows of every item
@@ -227,13 +329,13 @@ edges =
     ∷ gives (Within 19) two (run (pos 104) (pos 104) ∷ run (pos 123) (pos 123) ∷ [])
     ∷ on contrary [] (Question.Holds (Has 0 1) (pos 0)) (Contradiction 0)
     ∷ on contrary [] (Question.Spans 0 1) (Contradiction 0)
-    ∷ joined (pos 10) (Question.Holds (Has 0 3) (pos 10)) (Answered Yes)
-    ∷ joined (pos 10) (Question.Holds (Has 0 3) (pos 11)) (Answered No)
-    ∷ joined (pos 10) (Question.Spans 0 3) (Answered (Spans (run (pos 10) (pos 10) ∷ [])))
-    ∷ joined (pos 11) (Question.Holds (Has 0 3) (pos 11)) (Answered No)
-    ∷ joined (pos 11) (Question.Spans 0 3) (Answered (Spans []))
+    ∷ led (pos 10) (Question.Holds (Has 0 3) (pos 10)) (Answered Yes)
+    ∷ led (pos 10) (Question.Holds (Has 0 3) (pos 11)) (Answered No)
+    ∷ led (pos 10) (Question.Spans 0 3) (Answered (Spans (run (pos 10) (pos 10) ∷ [])))
+    ∷ led (pos 11) (Question.Holds (Has 0 3) (pos 11)) (Answered No)
+    ∷ led (pos 11) (Question.Spans 0 3) (Answered (Spans []))
     ∷ []
 
 -- and these behind them; then 02's
 abbrev pub cases : List Case
-cases = edges ++ (nothing ITEMS ++ (stretches ++ (countings ++ holes)))
+cases = edges ++ (nothing ITEMS ++ (stretches ++ (countings ++ (holes ++ pads))))

@@ -9,13 +9,14 @@ use Rattle.terms.specs.Tests.{and-both, both-and}
 use Rattle.terms.specs.Limits.{ITEMS}
 use Rattle.terms.specs.Held.{_∈_}
 use Rattle.terms.specs.Lists.{some, every, once, strike, depthCount, limits}
+use Rattle.logic.specs.Classes.{joinedB}
 use Rattle.tables.specs.Executed.{model}
 use Rattle.spans.specs.Runs.{runs}
 use Rattle.terms.specs.Limited.{limited, in-range}
 use Rattle.decide.specs.Decide.{answer-decides}
 use Rattle.decide.specs.Answer.{answer}
 use Rattle.decide.specs.Decides.{Reply, Decides}
-use Rattle.cases.specs.Cases.{Case, edges, nothing, stretches, countings, holes, cases}
+use Rattle.cases.specs.Cases.{Case, edges, nothing, stretches, countings, holes, pads, cases}
 
 -- ---- computed, and so decided
 
@@ -45,30 +46,35 @@ more-checked (c ∷ cs) ds C D =
     record { kept = both-and (within c) (every within (cs ++ ds)) (w .0) (R .kept); same = λ i. e i ∷ R .same i }
 
 edges-checked : Checked edges
-unfolding limits every once some strike depthCount answer model runs
+unfolding limits every once some strike depthCount answer model runs joinedB
 edges-checked = record { kept = tt; same = refl }
 
 nothing-checked : Checked (nothing ITEMS)
-unfolding limits every once some strike depthCount answer model runs
+unfolding limits every once some strike depthCount answer model runs joinedB
 nothing-checked = record { kept = tt; same = refl }
 
 stretches-checked : Checked stretches
-unfolding limits every once some strike depthCount answer model runs
+unfolding limits every once some strike depthCount answer model runs joinedB
 stretches-checked = record { kept = tt; same = refl }
 
 countings-checked : Checked countings
-unfolding limits every once some strike depthCount answer model runs
+unfolding limits every once some strike depthCount answer model runs joinedB
 countings-checked = record { kept = tt; same = refl }
 
 holes-checked : Checked holes
-unfolding limits every once some strike depthCount answer model runs
+unfolding limits every once some strike depthCount answer model runs joinedB
 holes-checked = record { kept = tt; same = refl }
+
+pads-checked : Checked pads
+unfolding limits every once some strike depthCount answer model runs joinedB
+pads-checked = record { kept = tt; same = refl }
 
 checked : Checked cases
 checked =
-    more-checked edges (nothing ITEMS ++ (stretches ++ (countings ++ holes))) edges-checked
-    (more-checked (nothing ITEMS) (stretches ++ (countings ++ holes)) nothing-checked
-    (more-checked stretches (countings ++ holes) stretches-checked (more-checked countings holes countings-checked holes-checked)))
+    more-checked edges (nothing ITEMS ++ (stretches ++ (countings ++ (holes ++ pads)))) edges-checked
+    (more-checked (nothing ITEMS) (stretches ++ (countings ++ (holes ++ pads))) nothing-checked
+    (more-checked stretches (countings ++ (holes ++ pads)) stretches-checked
+    (more-checked countings (holes ++ pads) countings-checked (more-checked holes pads holes-checked pads-checked))))
 
 each : (cs : List Case) → Checked cs → (c : Case) → c ∈ cs → Decides (c .held) (c .question) (c .reply)
 unfolding every

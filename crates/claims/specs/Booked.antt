@@ -26,7 +26,8 @@ use Rattle.records.specs.declared.Command.the-variants as Command
 use Rattle.records.specs.Formats.{kindField, bodyOf, usedFor}
 use Rattle.records.specs.Records.{parse}
 use Rattle.decide.specs.Decides.{Reply, Decides}
-use Rattle.decide.specs.Decide.{at-most-one, answer-decides}
+use Rattle.decide.specs.Unique.{at-most-one}
+use Rattle.decide.specs.Decide.{answer-decides}
 use Rattle.decide.specs.Answer.{answer}
 use Rattle.commands.specs.Buffers.{isShort}
 use Rattle.commands.specs.Call.{Outcome, Refused, Ended, Changed, Asked, obey, judged}

@@ -61,14 +61,15 @@ abbrev pub Contradicts : After → Type 0
 Contradicts r = (a : ℕ) × (r .answer ≡ Answer.Contradiction a)
 
 pub record Exact (h : Held) (q : Question) (r : After) : Type 0 where
-  -- contradiction with a exactly if a is the lowest item with NEVER; exactly if some item has it; exactly if no interpretation satisfies marks and rules
-  pub lowest : (a : ℕ) → (r .answer ≡ Answer.Contradiction a) ↔ Lowest h a
-  pub some-never : Contradicts r ↔ Never h
-  pub none-satisfies : Contradicts r ↔ (Some h → ⊥)
-  -- demand 2: no item has NEVER, and the statement is in the least model or is not
-  pub by-model : Told-by (Never h → ⊥) (Derived h) (λ x i. Derived h x i → ⊥) q r
-  -- demand 3's words: an interpretation satisfies marks and rules, and all that do make the statement true or one of them makes it false
-  pub by-interpretations : Told-by (Some h) (InAll h) (InOneNot h) q r
+  -- of the items that are joined to the question's: contradiction with a exactly if a is the lowest with NEVER; exactly if some item has it; exactly if
+  -- no interpretation of them satisfies marks and rules
+  pub lowest : (a : ℕ) → (r .answer ≡ Answer.Contradiction a) ↔ Lowest h q a
+  pub some-never : Contradicts r ↔ Never h q
+  pub none-satisfies : Contradicts r ↔ (Some h q → ⊥)
+  -- demand 2: none of them has NEVER, and the statement is in the least model or is not
+  pub by-model : Told-by (Never h q → ⊥) (Derived h) (λ x i. Derived h x i → ⊥) q r
+  -- demand 3's words: an interpretation of them satisfies marks and rules, and all that do make the statement true or one of them makes it false
+  pub by-interpretations : Told-by (Some h q) (InAll h q) (InOneNot h q) q r
   -- each bit of both tables, by 01's numbering of the pieces, in a hole of its pieces alone, 193 at most
   pub number : ℤ → ℕ
   pub count : ℕ

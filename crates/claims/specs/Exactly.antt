@@ -111,7 +111,7 @@ module _ (h : Held) (w : Limited h) (m : Buffers) (u : ℕ) where
         ∙ take-at (flat (v .runs)) (drop (length (flat (v .runs))) (m .spans)) (2 * n) (flat-length (v .runs) ∙ ap (λ k. 2 * k) (v .number));
   }
 
-  by-model : (q : Question) → Told-by (Never h → ⊥) (Derived h) (λ x i. Derived h x i → ⊥) q (left q)
+  by-model : (q : Question) → Told-by (Never h q → ⊥) (Derived h) (λ x i. Derived h x i → ⊥) q (left q)
   by-model (Question.Holds x i) =
       let r = answer h (Question.Holds x i) in
       (through (says-yes r) (yes-exactly h (in-range h w) x i), through (says-no r) (no-exactly h (in-range h w) x i))
@@ -123,7 +123,7 @@ module _ (h : Held) (w : Limited h) (m : Buffers) (u : ℕ) where
             runs-written (λ i. Derived h (Has a A) i) r n v (spans-exactly h (in-range h w) a A (v .runs) .0 (v .said) .1),
       )
 
-  by-interpretations : (q : Question) → Told-by (Some h) (InAll h) (InOneNot h) q (left q)
+  by-interpretations : (q : Question) → Told-by (Some h q) (InAll h q) (InOneNot h q) q (left q)
   by-interpretations (Question.Holds x i) =
       let r = answer h (Question.Holds x i) in
       (through (says-yes r) (yes-in-all h (in-range h w) x i), through (says-no r) (no-in-one h (in-range h w) x i))
@@ -132,7 +132,7 @@ module _ (h : Held) (w : Limited h) (m : Buffers) (u : ℕ) where
         through (some-spans r) (spans-in-all h (in-range h w) a A),
         λ n e.
             let v = says-spans r n e in
-            runs-written (InAll h (Has a A)) r n v (spans-longest h (in-range h w) a A (v .runs) (v .said)),
+            runs-written (InAll h (Question.Spans a A) (Has a A)) r n v (spans-longest h (in-range h w) a A (v .runs) (v .said)),
       )
 
   exact-reply : (q : Question) → Exact h q (left q)

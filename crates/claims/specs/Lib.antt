@@ -4,6 +4,7 @@ pub mod Beside
 pub mod Lives
 pub mod Memory
 pub mod Exact
+pub mod Tells
 pub mod Ascending
 pub mod Kinds
 pub mod Refused
@@ -19,5 +20,6 @@ pub mod Lent
 pub mod Exactly
 pub mod Outside
 pub mod SpanRecord
+pub mod Elsewhere
 pub mod Values
 pub mod OneCall

@@ -111,7 +111,7 @@ span-refused m a A n = go (short m) (good (m .block)) (isQuestion q)
 -- ---- demand 2 of the span call
 
 -- with enough lent, a good block and names that there are, it is the record's call
-span-asks :
+pub span-asks :
     (m : Buffers) (a A : ℕ) (h : Held) → short m ≡ false → Holding (m .block) h → T (isQuestion (Question.Spans a A)) →
     Asking m (spansRecord a A) h (Question.Spans a A)
 unfolding bytes little saidBy lengthsOf

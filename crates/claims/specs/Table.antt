@@ -163,10 +163,9 @@ depthsFull h = onSaid false (λ ρ. false) (λ m. ltb DEPTHS (depthCount (endsOf
 
 -- ---- the table
 
--- body and lists
-abbrev pub recordRows : Held → ℕ → List ℕ → List Test
-recordRows h k b =
-    let x = saidBy k b in
+-- body and lists, of a record that says x
+abbrev pub saidRows : Held → ℕ → List ℕ → Said → List Test
+saidRows h k b x =
     test (badName x) 6
     ∷ test (badValue k b) 7
     ∷ test (ruleHeld h x) 15
@@ -179,6 +178,9 @@ recordRows h k b =
     ∷ test (listFull h x) 11
     ∷ test (depthsFull h x) 12
     ∷ []
+
+abbrev pub recordRows : Held → ℕ → List ℕ → List Test
+recordRows h k b = saidRows h k b (saidBy k b)
 
 -- frame, body and lists; end is checked before them
 abbrev pub inputRows : Held → List ℕ → List Test

@@ -9,6 +9,7 @@ use Rattle.terms.specs.Limits.{ITEMS, NEVER}
 use Rattle.terms.specs.Holes.{isInside}
 use Rattle.terms.specs.Held.{Held, holeIn}
 use Rattle.terms.specs.HoleLaws.{lineOf}
+use Rattle.logic.specs.Classes.{concernsB}
 use Rattle.line.specs.Intervals.{cutsOf, interval, count}
 use Rattle.spans.specs.Runs.{runs}
 use Rattle.verdicts.specs.Reading.{anyBelow, Lookup, absent, first, lowestOf}
@@ -17,8 +18,12 @@ use Rattle.tables.specs.Executed.{model}
 use Rattle.decide.specs.Decides.{Verdict, Yes, No, Spans, Reply, Contradiction, Answered}
 
 -- item a has NEVER somewhere
-abbrev pub clashes : Held → List Fact → ℕ → Bool
-clashes h fs a = anyBelow (count h) (λ p. mem (fact (Has a NEVER) p) fs)
+abbrev pub neverB : Held → List Fact → ℕ → Bool
+neverB h fs a = anyBelow (count h) (λ p. mem (fact (Has a NEVER) p) fs)
+
+-- and the question concerns it
+abbrev pub clashes : Held → Question → List Fact → ℕ → Bool
+clashes h q fs a = concernsB (h .marks) q a && neverB h fs a
 
 abbrev pub clashOr : Lookup → Verdict → Reply
 clashOr absent v = Answered v
@@ -29,4 +34,4 @@ verdict h fs (Question.Holds x i) = cond (isInside (holeIn h) i && mem (fact x (
 verdict h fs (Question.Spans a A) = Spans (runs (lineOf (holeIn h)) (cutsOf h) (λ p. mem (fact (Has a A) p) fs))
 
 unfoldable pub answer : Held → Question → Reply
-answer h q = let fs = model h in let v = verdict h fs q in clashOr (lowestOf (clashes h fs) ITEMS 0) v
+answer h q = let fs = model h in let v = verdict h fs q in clashOr (lowestOf (clashes h q fs) ITEMS 0) v

@@ -11,6 +11,7 @@ use Rattle.terms.specs.declared.Question.the-variants as Question
 use Rattle.terms.specs.Limits.{ITEMS, NEVER}
 use Rattle.terms.specs.Held.{Held}
 use Rattle.logic.specs.Depths.{Derived}
+use Rattle.logic.specs.Joined.{Concerns}
 use Rattle.logic.specs.Interpretations.{Interpretation, Satisfies}
 use Rattle.terms.specs.Spans.{Run, Longest}
 
@@ -24,42 +25,44 @@ pub data Reply : Type 0 where
   Contradiction : ℕ → Reply
   Answered : Verdict → Reply
 
--- 01, Rules of derivation: an item that there is has NEVER at some depth
-pub record Never (h : Held) : Type 0 where
+-- 01, Rules of derivation: an item that there is has NEVER at some depth; 02, Slip 7: one that the question concerns
+pub record Never (h : Held) (q : Question) : Type 0 where
   pub item : ℕ
   pub depth : ℤ
   pub named : item < ITEMS
+  pub concerned : Concerns h q item
   pub has : Derived h (Has item NEVER) depth
 
--- 01, Records: the lowest item that has NEVER
-pub record Lowest (h : Held) (a : ℕ) : Type 0 where
+-- 01, Records: the lowest item that has NEVER; 02, Slip 7: of those that the question concerns
+pub record Lowest (h : Held) (q : Question) (a : ℕ) : Type 0 where
   pub item : a < ITEMS
+  pub concerned : Concerns h q a
   pub depth : ℤ
   pub never : Derived h (Has a NEVER) depth
-  pub lower : (b : ℕ) (i : ℤ) → b < a → Derived h (Has b NEVER) i → ⊥
+  pub lower : (b : ℕ) (i : ℤ) → b < a → Concerns h q b → Derived h (Has b NEVER) i → ⊥
 
--- some interpretation satisfies the marks and rules
-abbrev pub Some : Held → Type 0
-Some h = (D : Interpretation) × Satisfies h D
+-- some interpretation satisfies the marks and rules; 02, Slip 7: of the items that the question concerns alone
+abbrev pub Some : Held → Question → Type 0
+Some h q = (D : Interpretation) × Satisfies h (Concerns h q) D
 
 -- a statement is true in all that do
-abbrev pub InAll : Held → Atom → ℤ → Type 0
-InAll h x i = (D : Interpretation) → Satisfies h D → D x i ≡ true
+abbrev pub InAll : Held → Question → Atom → ℤ → Type 0
+InAll h q x i = (D : Interpretation) → Satisfies h (Concerns h q) D → D x i ≡ true
 
 -- false in one of them
-abbrev pub InOneNot : Held → Atom → ℤ → Type 0
-InOneNot h x i = (D : Interpretation) × Satisfies h D × (D x i ≡ false)
+abbrev pub InOneNot : Held → Question → Atom → ℤ → Type 0
+InOneNot h q x i = (D : Interpretation) × Satisfies h (Concerns h q) D × (D x i ≡ false)
 
 -- demand 3: what a question comes to where some interpretation satisfies them
 abbrev pub Says : Held → Question → Verdict → Type 0
-Says h (Question.Holds x i) Yes = InAll h x i
-Says h (Question.Holds x i) No = InOneNot h x i
+Says h (Question.Holds x i) Yes = InAll h (Question.Holds x i) x i
+Says h (Question.Holds x i) No = InOneNot h (Question.Holds x i) x i
 Says h (Question.Holds x i) (Spans rs) = ⊥
 Says h (Question.Spans a A) Yes = ⊥
 Says h (Question.Spans a A) No = ⊥
-Says h (Question.Spans a A) (Spans rs) = Longest (InAll h (Has a A)) rs
+Says h (Question.Spans a A) (Spans rs) = Longest (InAll h (Question.Spans a A) (Has a A)) rs
 
 -- demand 3: contradiction where none does
 abbrev pub Decides : Held → Question → Reply → Type 0
-Decides h q (Contradiction a) = (Some h → ⊥) × Lowest h a
-Decides h q (Answered v) = Some h × Says h q v
+Decides h q (Contradiction a) = (Some h q → ⊥) × Lowest h q a
+Decides h q (Answered v) = Some h q × Says h q v

@@ -1,5 +1,5 @@
 -- Demand 3's sentences, one by one, of the computed answer. Assumes nothing.
-use mathlib.Core.Path.{_≡_, refl, subst}
+use mathlib.Core.Path.{_≡_, refl}
 use mathlib.Core.Logic.{_↔_}
 use mathlib.Core.List.{List}
 use Prim.Native.Nat.{ℕ}
@@ -12,60 +12,57 @@ use Rattle.terms.specs.Held.{Held}
 use Rattle.terms.specs.Limited.{InRange}
 use Rattle.terms.specs.Spans.{Run, Longest}
 use Rattle.decide.specs.Decides.{Yes, No, Spans, Reply, Contradiction, Answered, Never, Some, InAll, InOneNot, Decides}
+use Rattle.decide.specs.Derives.{Derives}
 use Rattle.decide.specs.Answer.{answer}
-use Rattle.decide.specs.Decide.{at-most-one, answer-decides, Cases, clear, clashing, reply-cases, contradiction-exactly}
+use Rattle.decide.specs.Unique.{lowest-never}
+use Rattle.decide.specs.Decide.{answer-derives, contradiction-exactly, answer-decides, decides-exactly}
 
 module _ (h : Held) (R : InRange h) (q : Question) where
   abbrev pub Contradicted : Type 0
   Contradicted = (a : ℕ) × (answer h q ≡ Contradiction a)
 
-  -- contradiction exactly if some item has NEVER at some depth
-  pub some-never : Contradicted ↔ Never h
+  -- contradiction exactly if some item concerned has NEVER at some depth
+  pub some-never : Contradicted ↔ Never h q
   some-never = (
-    λ w. let l = contradiction-exactly h R q (w .0) .0 (w .1) in record { item = w .0; depth = l .depth; named = l .item; has = l .never },
-    λ n. go n (reply-cases h R q) refl,
+    λ w. lowest-never h q (w .0) (contradiction-exactly h R q (w .0) .0 (w .1)),
+    λ n. go n (answer h q) refl (answer-derives h R q),
   )
     where
-      go : Never h → {r : Reply} → Cases h R q r → answer h q ≡ r → Contradicted
-      go n (clear N) e = absurd (N n)
-      go n (clashing a l) e = (a, e)
+      go : Never h q → (r : Reply) → answer h q ≡ r → Derives h q r → Contradicted
+      go n (Contradiction a) e d = (a, e)
+      go n (Answered v) e d = absurd (d .0 n)
 
-  -- exactly if no interpretation satisfies marks and rules
-  pub none-satisfies : Contradicted ↔ (Some h → ⊥)
-  none-satisfies = (λ w. subst (Decides h q) (w .1) (answer-decides h R q) .0, λ f. go f (answer h q) refl (answer-decides h R q))
+  -- exactly if no interpretation of the items concerned satisfies marks and rules
+  pub none-satisfies : Contradicted ↔ (Some h q → ⊥)
+  none-satisfies = (λ w. decides-exactly h R q (Contradiction (w .0)) .0 (w .1) .0, λ f. go f (answer h q) refl (answer-decides h R q))
     where
-      go : (Some h → ⊥) → (r : Reply) → answer h q ≡ r → Decides h q r → Contradicted
+      go : (Some h q → ⊥) → (r : Reply) → answer h q ≡ r → Decides h q r → Contradicted
       go f (Contradiction a) e d = (a, e)
       go f (Answered v) e d = absurd (f (d .0))
 
 module _ (h : Held) (R : InRange h) where
   -- yes exactly if one satisfies them and all that do make it true
-  pub yes-in-all : (x : Atom) (i : ℤ) → (answer h (Question.Holds x i) ≡ Answered Yes) ↔ (Some h × InAll h x i)
-  yes-in-all x i = (
-    λ e. subst (Decides h (Question.Holds x i)) e (answer-decides h R (Question.Holds x i)),
-    λ w. at-most-one h (Question.Holds x i) (answer h (Question.Holds x i)) (Answered Yes) (answer-decides h R (Question.Holds x i)) w,
-  )
+  pub yes-in-all : (x : Atom) (i : ℤ) → let q = Question.Holds x i in (answer h q ≡ Answered Yes) ↔ (Some h q × InAll h q x i)
+  yes-in-all x i = decides-exactly h R (Question.Holds x i) (Answered Yes)
 
   -- no exactly if one satisfies them and one of them makes it false
-  pub no-in-one : (x : Atom) (i : ℤ) → (answer h (Question.Holds x i) ≡ Answered No) ↔ (Some h × InOneNot h x i)
-  no-in-one x i = (
-    λ e. subst (Decides h (Question.Holds x i)) e (answer-decides h R (Question.Holds x i)),
-    λ w. at-most-one h (Question.Holds x i) (answer h (Question.Holds x i)) (Answered No) (answer-decides h R (Question.Holds x i)) w,
-  )
+  pub no-in-one : (x : Atom) (i : ℤ) → let q = Question.Holds x i in (answer h q ≡ Answered No) ↔ (Some h q × InOneNot h q x i)
+  no-in-one x i = decides-exactly h R (Question.Holds x i) (Answered No)
 
   -- spans exactly if one satisfies them, and then they are the longest runs of what is true in all
-  pub spans-in-all : (a A : ℕ) → ((rs : List Run) × (answer h (Question.Spans a A) ≡ Answered (Spans rs))) ↔ Some h
+  pub spans-in-all : (a A : ℕ) → let q = Question.Spans a A in ((rs : List Run) × (answer h q ≡ Answered (Spans rs))) ↔ Some h q
   spans-in-all a A = (
-    λ w. subst (Decides h (Question.Spans a A)) (w .1) (answer-decides h R (Question.Spans a A)) .0,
+    λ w. decides-exactly h R (Question.Spans a A) (Answered (Spans (w .0))) .0 (w .1) .0,
     λ s. go s (answer h (Question.Spans a A)) refl (answer-decides h R (Question.Spans a A)),
   )
     where
-      go : Some h → (r : Reply) → answer h (Question.Spans a A) ≡ r → Decides h (Question.Spans a A) r →
+      go : Some h (Question.Spans a A) → (r : Reply) → answer h (Question.Spans a A) ≡ r → Decides h (Question.Spans a A) r →
           (rs : List Run) × (answer h (Question.Spans a A) ≡ Answered (Spans rs))
       go s (Contradiction b) e d = absurd (d .0 s)
       go s (Answered Yes) e d = absurd (d .1)
       go s (Answered No) e d = absurd (d .1)
       go s (Answered (Spans rs)) e d = (rs, e)
 
-  pub spans-longest : (a A : ℕ) (rs : List Run) → answer h (Question.Spans a A) ≡ Answered (Spans rs) → Longest (InAll h (Has a A)) rs
-  spans-longest a A rs e = subst (Decides h (Question.Spans a A)) e (answer-decides h R (Question.Spans a A)) .1
+  pub spans-longest : (a A : ℕ) (rs : List Run) → let q = Question.Spans a A in
+      answer h q ≡ Answered (Spans rs) → Longest (InAll h q (Has a A)) rs
+  spans-longest a A rs e = decides-exactly h R (Question.Spans a A) (Answered (Spans rs)) .0 e .1

@@ -20,6 +20,7 @@ use Rattle.terms.specs.Holes.{isInside}
 use Rattle.terms.specs.Held.{Held, holeIn, isStatement, isQuestion}
 use Rattle.terms.specs.HoleLaws.{lineOf}
 use Rattle.terms.specs.Limited.{InRange}
+use Rattle.logic.specs.Classes.{concernsB}
 use Rattle.words.specs.Bit.{bitAt}
 use Rattle.line.specs.Cuts.{upto}
 use Rattle.line.specs.CutLaws.{upto-length}
@@ -33,9 +34,10 @@ use Rattle.tables.specs.Tables.{labelEntry, linkEntry, labelTable, linkTable}
 use Rattle.tables.specs.TableLaws.{bit-of, behind-absent, label-entry, link-entry, length-labels, length-links}
 use Rattle.spans.specs.Longest.{runs-fit}
 use Rattle.spans.specs.Runs.{Begun, outside, since, stretchOf, runsFrom, runs, hasLabel}
-use Rattle.verdicts.specs.Reading.{anyBelow, Lookup, absent, first, lowestOf, neverIn, clashOf, holdsIn}
+use Rattle.verdicts.specs.Reading.{anyBelow, Lookup, absent, first, lowestOf, neverIn, clashOf, clashesIn, holdsIn}
+use Rattle.verdicts.specs.Below.{lowest-same}
 use Rattle.verdicts.specs.declared.Clash.the-variants as Clash
-use Rattle.decide.specs.Answer.{clashes, clashOr, verdict, answer}
+use Rattle.decide.specs.Answer.{neverB, clashes, clashOr, verdict, answer}
 use Rattle.decide.specs.Decides.{Verdict, Yes, No, Spans, Reply, Contradiction, Answered}
 
 -- a reply as an answer
@@ -44,6 +46,11 @@ answerOf (Contradiction a) = Answer.Contradiction a
 answerOf (Answered Yes) = Answer.Yes
 answerOf (Answered No) = Answer.No
 answerOf (Answered (Spans rs)) = Answer.Spans (length rs)
+
+-- what the tables say of a question in the hole, on a line with these cuts, where nothing is contradictory
+abbrev pub tableVerdict : Hole → List ℤ → List ℕ → List ℕ → Question → Verdict
+tableVerdict H cs labels links (Question.Holds x i) = cond (isInside H i && holdsIn labels links x (upto cs i)) Yes No
+tableVerdict H cs labels links (Question.Spans a A) = Spans (runs (lineOf H) cs (hasLabel labels a A))
 
 -- ---- it is the model
 
@@ -90,26 +97,17 @@ module _ (h : Held) (R : InRange h) (few : length (cutsOf h) ≤ CUTS) where
       go (yes d) m = ap (λ v. v || anyBelow k f) (e k (omega arith)) ∙ m (omega arith)
       go (no d) m = ap (λ v. anyBelow v f) (let z : suc k ≡ n = omega arith in z)
 
-  never-is : (t : List ℕ) (a : ℕ) → a < ITEMS → neverIn (labelTable h ++ t) a ≡ clashes h (model h) a
+  never-is : (t : List ℕ) (a : ℕ) → a < ITEMS → neverIn (labelTable h ++ t) a ≡ neverB h (model h) a
   never-is t a l =
       any-same INTERVALS (hasLabel (labelTable h ++ t) a NEVER) (λ p. mem (fact (Has a NEVER) p) (model h)) (λ p b. label-bit t a NEVER p l (omega arith) b)
       ∙ any-more INTERVALS (count h) (λ p. mem (fact (Has a NEVER) p) (model h)) (λ p b. behind-absent h R (Has a NEVER) p (omega arith)) (omega arith)
 
-  lowest-same : (n a : ℕ) (f g : ℕ → Bool) → ((b : ℕ) → b < a + n → f b ≡ g b) → lowestOf f n a ≡ lowestOf g n a
-  lowest-same zero a f g e = refl
-  lowest-same (suc n) a f g e = go (f a) (g a) (e a (omega arith)) (lowest-same n (suc a) f g (λ b l. e b (omega arith)))
-    where
-      go : (s t : Bool) → s ≡ t → lowestOf f n (suc a) ≡ lowestOf g n (suc a) →
-          _≡_ {A = Lookup} (elim s [ true ↦ first a | false ↦ lowestOf f n (suc a) ])
-          (elim t [ true ↦ first a | false ↦ lowestOf g n (suc a) ])
-      go true true d k = refl
-      go true false d k = true-false d
-      go false true d k = true-false (sym d)
-      go false false d k = k
-
-  -- the lowest item with NEVER, by the table
-  pub clash-is : (t : List ℕ) → lowestOf (neverIn (labelTable h ++ t)) ITEMS 0 ≡ lowestOf (clashes h (model h)) ITEMS 0
-  clash-is t = lowest-same ITEMS 0 (neverIn (labelTable h ++ t)) (clashes h (model h)) (λ a l. never-is t a (omega arith))
+  -- the lowest item with NEVER of those concerned, by the table
+  clash-is : (q : Question) (t : List ℕ) →
+      lowestOf (clashesIn (concernsB (h .marks) q) (labelTable h ++ t)) ITEMS 0 ≡ lowestOf (clashes h q (model h)) ITEMS 0
+  clash-is q t =
+      lowest-same ITEMS 0 (clashesIn (concernsB (h .marks) q) (labelTable h ++ t)) (clashes h q (model h))
+      (λ a l. ap (λ b. concernsB (h .marks) q a && b) (never-is t a (omega arith)))
 
   runs-same : (e : Run) (cs : List ℤ) (f g : ℕ → Bool) (n p : ℕ) (b : Begun) → ((q : ℕ) → q < p + n → f q ≡ g q) →
       runsFrom e cs f n p b ≡ runsFrom e cs g n p b
@@ -147,34 +145,17 @@ module _ (h : Held) (R : InRange h) (few : length (cutsOf h) ≤ CUTS) where
 
   -- ---- the answer, by the tables
 
-  ask-is : (t u : List ℕ) (x : Atom) (i : ℤ) → T (isStatement x) →
-      answer h (Question.Holds x i)
-      ≡ clashOr (lowestOf (neverIn (labelTable h ++ t)) ITEMS 0)
-      (cond (isInside (holeIn h) i && holdsIn (labelTable h ++ t) (linkTable h ++ u) x (interval h i)) Yes No)
+  verdict-is : (t u : List ℕ) (q : Question) → T (isQuestion q) →
+      tableVerdict (holeIn h) (cutsOf h) (labelTable h ++ t) (linkTable h ++ u) q ≡ verdict h (model h) q
+  verdict-is t u (Question.Holds x i) s = ap (λ b. cond (isInside (holeIn h) i && b) Yes No) (holds-is t u x i s)
+  verdict-is t u (Question.Spans a A) s = let w = label-names a A s in ap Spans (runs-is t a A (w .0) (w .1))
+
+  -- contradiction with the lowest item that has NEVER of those concerned, else what the tables say
+  pub answer-is : (t u : List ℕ) (q : Question) → T (isQuestion q) → let labels = labelTable h ++ t in
+      answer h q
+      ≡ clashOr (lowestOf (clashesIn (concernsB (h .marks) q) labels) ITEMS 0) (tableVerdict (holeIn h) (cutsOf h) labels (linkTable h ++ u) q)
   unfolding answer
-  ask-is t u x i s =
-      sym (ap (λ l. clashOr l (cond (isInside (holeIn h) i && holdsIn (labelTable h ++ t) (linkTable h ++ u) x (interval h i)) Yes No)) (clash-is t)
-      ∙ ap (λ b. clashOr (lowestOf (clashes h (model h)) ITEMS 0) (cond (isInside (holeIn h) i && b) Yes No)) (holds-is t u x i s))
-
-  spans-is : (t : List ℕ) (a A : ℕ) → a < ITEMS → A < LABELS →
-      answer h (Question.Spans a A)
-      ≡ clashOr (lowestOf (neverIn (labelTable h ++ t)) ITEMS 0) (Spans (runs (lineOf (holeIn h)) (cutsOf h) (hasLabel (labelTable h ++ t) a A)))
-  unfolding answer
-  spans-is t a A l k =
-      sym (ap (λ o. clashOr o (Spans (runs (lineOf (holeIn h)) (cutsOf h) (hasLabel (labelTable h ++ t) a A)))) (clash-is t)
-      ∙ ap (λ rs. clashOr (lowestOf (clashes h (model h)) ITEMS 0) (Spans rs)) (runs-is t a A l k))
-
--- what the tables say of a question in the hole, on a line with these cuts, where nothing is contradictory
-abbrev pub tableVerdict : Hole → List ℤ → List ℕ → List ℕ → Question → Verdict
-tableVerdict H cs labels links (Question.Holds x i) = cond (isInside H i && holdsIn labels links x (upto cs i)) Yes No
-tableVerdict H cs labels links (Question.Spans a A) = Spans (runs (lineOf H) cs (hasLabel labels a A))
-
--- the answer by the tables: contradiction with the lowest item that has NEVER, else what they say
-pub answer-is :
-    (h : Held) → InRange h → length (cutsOf h) ≤ CUTS → (t u : List ℕ) (q : Question) → T (isQuestion q) → let labels = labelTable h ++ t in
-    answer h q ≡ clashOr (lowestOf (neverIn labels) ITEMS 0) (tableVerdict (holeIn h) (cutsOf h) labels (linkTable h ++ u) q)
-answer-is h R few t u (Question.Holds x i) s = ask-is h R few t u x i s
-answer-is h R few t u (Question.Spans a A) s = let w = label-names a A s in spans-is h R few t a A (w .0) (w .1)
+  answer-is t u q s = sym (λ i. clashOr (clash-is q t i) (verdict-is t u q s i))
 
 -- what is read off the table says which reply
 pub clash-nowhere : (l : Lookup) (v : Verdict) → clashOf l ≡ Clash.Nowhere → clashOr l v ≡ Answered v
@@ -188,7 +169,7 @@ clash-item (first b) v a e = let f : b ≡ a = cc in ap Contradiction f
 -- 01, Records: a list of spans has at most 97 pairs
 pub spans-fit : (h : Held) → length (cutsOf h) ≤ CUTS → (q : Question) (rs : List Run) → answer h q ≡ Answered (Spans rs) → length rs ≤ 97
 unfolding answer
-spans-fit h few q rs e = go (lowestOf (clashes h (model h)) ITEMS 0) q e
+spans-fit h few q rs e = go (lowestOf (clashes h q (model h)) ITEMS 0) q e
   where
     clash : _≡_ {A = ℕ} 0 1 → length rs ≤ 97
     clash z = omega arith

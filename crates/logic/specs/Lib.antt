@@ -3,6 +3,12 @@ pub mod Transfer
 pub mod Depths
 pub mod Nearness
 pub mod Sets
+pub mod Joined
+pub mod Untouched
 pub mod Interpretations
 pub mod Entailed
 pub mod Inside
+pub mod Chains
+pub mod Classes
+pub mod ClassLaws
+pub mod Local

@@ -31,7 +31,8 @@ use Rattle.verdicts.specs.declared.Clash.the-variants as Clash
 use Rattle.spans.specs.Runs.{runs, hasLabel}
 use Rattle.spans.specs.Code.{Spans-written}
 use Rattle.spans.specs.Longest.{runs-fit}
-use Rattle.verdicts.specs.Reading.{Lookup, lowestOf, neverIn, clashOf, clashIn, holdsIn}
+use Rattle.logic.specs.Classes.{concernsB}
+use Rattle.verdicts.specs.Reading.{Lookup, lowestOf, clashOf, clashesIn, clashIn, holdsIn}
 use Rattle.decide.specs.Answer.{clashOr, answer}
 use Rattle.decide.specs.Decides.{Verdict, Yes, No, Spans, Reply, Contradiction, Answered}
 use Rattle.decide.specs.Verdicts.{answerOf, tableVerdict, answer-is, clash-nowhere, clash-item}
@@ -75,8 +76,8 @@ interval-low cs i p few e = omega (arith, upto-length cs i)
 
 -- both tables are filled, and what they clash at was read
 module _
-    (s : State) (H : Held-state s) (l k l′ k′ : List ℕ) (S : Shown (heldOf s) l k l′ k′) (c : Clash) (read : c ≡ clashIn l′)
-    (q : Question) (named : T (isQuestion q)) (spans : List ℤ) where
+    (s : State) (H : Held-state s) (l k l′ k′ : List ℕ) (S : Shown (heldOf s) l k l′ k′) (c : Clash)
+    (q : Question) (named : T (isQuestion q)) (read : c ≡ clashIn (concernsB (heldOf s .marks) q) l′) (spans : List ℤ) where
   abbrev h : Held
   h = heldOf s
 
@@ -87,14 +88,14 @@ module _
   links = linkTable h ++ drop LINK-ENTRIES k
 
   abbrev found : Lookup
-  found = lowestOf (neverIn labels) ITEMS 0
+  found = lowestOf (clashesIn (concernsB (h .marks) q) labels) ITEMS 0
 
   abbrev said : Verdict
   said = tableVerdict (holeIn h) (cutsOf h) labels links q
 
   clash : clashOf found ≡ c
   unfolding clashIn
-  clash = sym (read ∙ ap clashIn (S .label-table))
+  clash = sym (read ∙ ap (clashIn (concernsB (h .marks) q)) (S .label-table))
 
   by-tables : answer h q ≡ clashOr found said
   by-tables = answer-is h (ranged s H) (few s H) (drop LABEL-ENTRIES l) (drop LINK-ENTRIES k) q named

@@ -2,9 +2,13 @@
 ghost use mathlib.Core.Path.{_≡_};
 ghost use Prim.Native.Nat.{_≤_};
 ghost use lib.ListN.{length, take};
+ghost use lib.Dec.{T};
 ghost use Rattle.terms.specs.Limits.{CUTS, LABEL-ENTRIES, LINK-ENTRIES};
+ghost use Rattle.terms.specs.Held.{isQuestion};
+ghost use Rattle.logic.specs.Classes.{concernsB};
 ghost use Rattle.state.specs.State.{heldOf};
 ghost use Rattle.tables.specs.Seeded.{Tables-derived};
+ghost use Rattle.verdicts.specs.Reading.{clashIn};
 ghost use Rattle.questions.specs.Code.{Held-state, To-read, Read-off, To-answer, Answered-as};
 use state::State;
 use terms::Answer;
@@ -26,6 +30,17 @@ fn derive(state: State, labels: &mut [u64], links: &mut [u8], cuts: &mut [i32; C
     let count = state.mark_count;
     let settings = state.settings;
     tables::derive(labels, links, cuts, places, n, marks, count, settings)
+}
+
+// What the tables clash at, of the items that the question concerns.
+fn clash_of(state: State, labels: &[u64], question: Question) -> Clash
+    requires { ⌜ Held-state state × (LABEL-ENTRIES ≤ length (now labels)) × T (isQuestion question) ⌝ }
+    ensures { λ r. ⌜ r ≡ clashIn (concernsB (heldOf state .marks) question) (now (labels .entry)) ⌝ }
+{
+    let marks = state.marks;
+    let count = state.mark_count;
+    let concerned = joined::concerned(marks, count, question);
+    verdicts::clash_in(labels, concerned)
 }
 
 // What the tables say of a question where nothing is contradictory; spans go to their buffer.
@@ -73,7 +88,7 @@ pub fn answer(
     let hole = settings.hole;
     let mut cuts = [0i32; CUTS];
     let n = derive(state, labels, links, &mut cuts);
-    match verdicts::clash_in(labels) {
+    match clash_of(state, labels, question) {
         Clash::Item(item) => Answer::Contradiction(item),
         Clash::Nowhere => read_off(labels, links, spans, &cuts, n, hole, question),
     }

@@ -1,31 +1,24 @@
 -- What a search that stops at the first hit has found, and the names and the bit of a statement. Assumes nothing.
 use mathlib.Core.Path.{_≡_, refl, sym, ap, subst}
-use mathlib.Core.Logic.{⊎-elim}
 use mathlib.Core.Bool.{Bool, true, false}
 use mathlib.Core.List.{List}
-use Prim.Native.Nat.{ℕ, zero, suc, _+_, _*_, _<_, _≤_}
-use native.Mathlib.Nat.{eq-or-lt-of-le}
+use Prim.Native.Nat.{ℕ, zero, suc, _+_, _*_, _<_}
 use native.Mathlib.Omega.{arith}
 use lib.Dec.{T, eqb}
 use lib.ListN.{getD}
 use Rattle.terms.specs.declared.Atom.{Atom}
 use Rattle.terms.specs.declared.Atom.the-variants.{Has, Linked}
-use Rattle.terms.specs.Tests.{or-left, or-right, of-true, true-of}
+use Rattle.terms.specs.Tests.{of-true, true-of}
 use Rattle.terms.specs.Limits.{ITEMS, INTERVALS, KINDS, LABELS, NEVER}
 use Rattle.terms.specs.Names.{label-names, link-names}
 use Rattle.terms.specs.Held.{isStatement}
 use Rattle.words.specs.Bit.{bitAt}
 use Rattle.spans.specs.Runs.{hasLabel}
 use Rattle.verdicts.specs.declared.Clash.the-variants.{Nowhere, Item}
-use Rattle.verdicts.specs.Reading.{anyBelow, absent, first, lowestOf, neverIn, clashOf, clashIn, holdsIn}
+use Rattle.verdicts.specs.Reading.{anyBelow, absent, first, lowestOf, neverIn, clashOf, clashesIn, clashIn, holdsIn}
+use Rattle.verdicts.specs.Below.{one-below}
 
 -- ---- NEVER in the entries of an item
-
-one-below : (n : ℕ) (f : ℕ → Bool) (p : ℕ) → p < n → T (f p) → T (anyBelow n f)
-one-below zero f p l t = let z : ⊥ = omega arith in absurd z
-one-below (suc n) f p l t =
-    let h : p ≤ n = omega arith in
-    ⊎-elim (λ e. or-left (f n) (anyBelow n f) (subst (λ q. T (f q)) e t)) (λ k. or-right (f n) (anyBelow n f) (one-below n f p k t)) (eq-or-lt-of-le h)
 
 none-below : (n : ℕ) (f : ℕ → Bool) → ((q : ℕ) → q < n → f q ≡ false) → anyBelow n f ≡ false
 none-below zero f h = refl
@@ -48,14 +41,14 @@ lowest-absent : (f : ℕ → Bool) (n a : ℕ) → ((q : ℕ) → q < a + n → 
 lowest-absent f zero a h = refl
 lowest-absent f (suc n) a h = rw (h a (omega arith), lowestOf) (lowest-absent f n (suc a) (λ q l. h q (omega arith)))
 
-pub clash-found : (labels : List ℕ) (item : ℕ) → item < ITEMS → ((a : ℕ) → a < item → neverIn labels a ≡ false) → neverIn labels item ≡ true →
-    Item item ≡ clashIn labels
+pub clash-found : (J : ℕ → Bool) (labels : List ℕ) (item : ℕ) → item < ITEMS → ((a : ℕ) → a < item → clashesIn J labels a ≡ false) →
+    clashesIn J labels item ≡ true → Item item ≡ clashIn J labels
 unfolding clashIn
-clash-found labels item l h t = sym (ap clashOf (lowest-first (neverIn labels) ITEMS 0 item item (omega arith) l h t))
+clash-found J labels item l h t = sym (ap clashOf (lowest-first (clashesIn J labels) ITEMS 0 item item (omega arith) l h t))
 
-pub clash-absent : (labels : List ℕ) → ((a : ℕ) → a < ITEMS → neverIn labels a ≡ false) → Nowhere ≡ clashIn labels
+pub clash-absent : (J : ℕ → Bool) (labels : List ℕ) → ((a : ℕ) → a < ITEMS → clashesIn J labels a ≡ false) → Nowhere ≡ clashIn J labels
 unfolding clashIn
-clash-absent labels h = sym (ap clashOf (lowest-absent (neverIn labels) ITEMS 0 (λ q l. h q (omega arith))))
+clash-absent J labels h = sym (ap clashOf (lowest-absent (clashesIn J labels) ITEMS 0 (λ q l. h q (omega arith))))
 
 -- ---- a statement
 

@@ -1,5 +1,5 @@
 -- What is read off the lent tables: the lowest item with NEVER, and a statement's bit.
-use mathlib.Core.Bool.{Bool, true, false, _||_}
+use mathlib.Core.Bool.{Bool, true, false, _&&_, _||_}
 use mathlib.Core.List.{List}
 use Prim.Native.Nat.{ℕ, zero, suc, _+_, _*_}
 use lib.Dec.{eqb}
@@ -35,9 +35,17 @@ abbrev pub clashOf : Lookup → Clash
 clashOf absent = Nowhere
 clashOf (first a) = Item a
 
--- 01, Records: the lowest item that has NEVER
-unfoldable pub clashIn : List ℕ → Clash
-clashIn labels = clashOf (lowestOf (neverIn labels) ITEMS 0)
+-- the items of a list of yes and no
+abbrev pub listed : List Bool → ℕ → Bool
+listed bs a = getD bs a false
+
+-- the item is one of these and has NEVER
+abbrev pub clashesIn : (ℕ → Bool) → List ℕ → ℕ → Bool
+clashesIn J labels a = J a && neverIn labels a
+
+-- 01, Records: the lowest item that has NEVER; 02, Slip 7: of these
+unfoldable pub clashIn : (ℕ → Bool) → List ℕ → Clash
+clashIn J labels = clashOf (lowestOf (clashesIn J labels) ITEMS 0)
 
 -- the statement's bit at an interval
 abbrev pub holdsIn : List ℕ → List ℕ → Atom → ℕ → Bool

@@ -5,7 +5,7 @@ ghost use lib.Dec.{T};
 ghost use lib.ListN.{length};
 ghost use Rattle.terms.specs.Held.{isStatement};
 ghost use Rattle.terms.specs.Limits.{ITEMS, INTERVALS, LABEL-ENTRIES, LINK-ENTRIES};
-ghost use Rattle.verdicts.specs.Reading.{neverIn, clashIn, holdsIn};
+ghost use Rattle.verdicts.specs.Reading.{neverIn, listed, clashesIn, clashIn, holdsIn};
 use terms::Atom;
 use terms::INTERVALS;
 use terms::wide;
@@ -37,19 +37,30 @@ fn has_never(labels: &[u64], item: usize) -> bool
     false
 }
 
-// What the tables clash at: the lowest item with NEVER.
+// Whether the item is concerned and has NEVER somewhere.
+fn clashes(labels: &[u64], concerned: [bool; ITEM_PLACES], item: usize) -> bool
+    requires { ⌜ (LABEL-ENTRIES ≤ length (now labels)) × (length concerned ≡ ITEMS) × (item < ITEMS) ⌝ }
+    ensures { λ r. ⌜ r ≡ clashesIn (listed concerned) (now (labels .entry)) item ⌝ }
+{
+    if concerned[item] {
+        return has_never(labels, item);
+    }
+    false
+}
+
+// What the tables clash at: the lowest item with NEVER of those concerned.
 pub enum Clash {
     Nowhere,
     Item(u8),
 }
 
-pub fn clash_in(labels: &[u64]) -> Clash
-    requires { ⌜ LABEL-ENTRIES ≤ length (now labels) ⌝ }
-    ensures { λ r. ⌜ r ≡ clashIn (now (labels .entry)) ⌝ }
+pub fn clash_in(labels: &[u64], concerned: [bool; ITEM_PLACES]) -> Clash
+    requires { ⌜ (LABEL-ENTRIES ≤ length (now labels)) × (length concerned ≡ ITEMS) ⌝ }
+    ensures { λ r. ⌜ r ≡ clashIn (listed concerned) (now (labels .entry)) ⌝ }
 {
     let mut item = 0;
     while item < ITEM_PLACES {
-        if has_never(labels, item) {
+        if clashes(labels, concerned, item) {
             let found = item as u8;
             return Clash::Item(found);
         }

@@ -1,6 +1,7 @@
 //! Writes stored test inputs of the program and what it has to print.
 //! `corpus wells FOLDER`: a hundred wells with points, fifty with points and stretches behind them,
-//! thirty whose rule lists name a counting, and thirty that are holes with two ends;
+//! thirty whose rule lists name a counting, thirty that are holes with two ends, and thirty pads of
+//! several wells;
 //! `corpus limits FOLDER`: inputs at the size limit.
 
 mod limits;
@@ -11,15 +12,17 @@ use model::listing::{listing, MAX_INPUT};
 use std::path::Path;
 use well::{Size, Well};
 
-const WELLS: u64 = 210;
+const WELLS: u64 = 240;
 /// From this well on a caliper gives stretches.
 const CALIPER: u64 = 100;
 /// From this well on rule lists name a counting, and there are two sections at least.
 const COUNTINGS: u64 = 150;
 /// From this well on sections are drilled in a hole with two ends.
 const HOLES: u64 = 180;
+/// From this well on several wells share a section, and every second pad is drilled without a hole.
+const PADS: u64 = 210;
 
-/// From a few marks to full lists; each tenth well goes over its limits.
+/// From a few marks to full lists.
 fn size(number: u64) -> Size {
     let mut dice = Dice::new(1_000 + number);
     let large = number % 10;
@@ -41,8 +44,17 @@ fn size(number: u64) -> Size {
             false => dice.pick(&[20, 50, 80]),
         },
         countings,
-        holes: number >= HOLES,
+        holes: number >= HOLES && (number < PADS || number % 2 == 0),
+        wells: 0,
     };
+    match number < PADS {
+        true => with_limits(large, size),
+        false => with_limits(large, pad(&mut dice, size)),
+    }
+}
+
+/// Each ninth of ten wells goes deeper, and each tenth goes over its limits.
+fn with_limits(large: u64, size: Size) -> Size {
     match large {
         8 => Size { deeper: 60, ..size },
         9 => Size {
@@ -53,6 +65,18 @@ fn size(number: u64) -> Size {
             ..size
         },
         _ => size,
+    }
+}
+
+/// The same with the items shared out to several wells, and rules by which gas in a wet place makes
+/// some of them contradictory on most pads.
+fn pad(dice: &mut Dice, size: Size) -> Size {
+    Size {
+        rules: size.rules.max(18),
+        items: 16,
+        strict: dice.percent(80),
+        wells: dice.pick(&[2, 4, 4, 8]),
+        ..size
     }
 }
 

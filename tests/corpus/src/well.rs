@@ -1,7 +1,8 @@
 //! A well as a stream of records: rules, then a drilled section with questions in between. Where a
 //! caliper runs, marks are points and stretches, by the old kinds and the new ones. Where rule lists
 //! name a counting, it is set before them; among the marks it is too late. Where the hole has two
-//! ends, they are given before the marks, which may go on past its bottom.
+//! ends, they are given before the marks, which may go on past its bottom. On a pad the items are
+//! shared out to several wells, and links between two of them are a mistake that is taken back.
 
 use dice::Dice;
 use model::frame::{bytes, framed, wide_bytes};
@@ -55,6 +56,8 @@ pub struct Size {
     pub countings: bool,
     /// Whether the hole has two ends; nothing of it is drawn where it hasn't.
     pub holes: bool,
+    /// How many wells a pad has; nothing of it is drawn where this is 0.
+    pub wells: u8,
 }
 
 pub struct Well {
@@ -147,8 +150,23 @@ impl Well {
         if self.size.countings {
             (0..3).for_each(|_| self.see_again());
         }
+        let early = self.size.wells > 0 && self.dice.percent(50);
+        if early {
+            self.flood();
+        }
         (0..self.size.marks).for_each(|_| self.drill());
+        if self.size.wells > 0 && !early {
+            self.flood();
+        }
         self.report();
+    }
+
+    /// Water and gas at the bit in the same place of a well.
+    fn flood(&mut self) {
+        let item = self.item();
+        let seen = [WATER, GAS].map(|label| Mark::point(has(item, label), self.depth as i32));
+        seen.into_iter().for_each(|mark| self.see(mark));
+        self.ask_pad();
     }
 
     /// One counting after the other, the last of which counts, or none; now and then behind marks.
@@ -235,8 +253,21 @@ impl Well {
         match self.dice.below(20) {
             0 => has(self.item(), WATER),
             1 => has(self.item(), SHOE),
-            2..=6 => link(self.item(), self.dice.below(3) as u8, self.item()),
+            2..=6 => {
+                let (from, kind, to) = (self.item(), self.dice.below(3) as u8, self.item());
+                link(from, kind, self.other_end(from, to))
+            }
             _ => has(self.item(), self.dice.pick(&rock)),
+        }
+    }
+
+    /// Where a link from the item leads that was drawn to another: there, or on a pad to an item of
+    /// the same well, but for a mistake now and then.
+    fn other_end(&mut self, from: u8, to: u8) -> u8 {
+        match self.size.wells {
+            0 => to,
+            _ if self.dice.percent(8) => to,
+            wells => to - to % wells + from % wells,
         }
     }
 
@@ -385,6 +416,11 @@ impl Well {
     /// the water, in case that was the contradiction.
     fn report(&mut self) {
         self.show();
+        if self.size.wells > 0 {
+            self.ask_pad();
+            self.part_wells();
+            self.ask_pad();
+        }
         if self.size.strict {
             let marks = std::mem::take(&mut self.marks);
             let wet = |mark: &&Mark| matches!(mark.fact, Fact::Label { label: WATER, .. });
@@ -404,6 +440,32 @@ impl Well {
         if self.size.holes {
             self.ask_at_ends();
         }
+    }
+
+    /// What is there in each well of a pad, and between it and the next.
+    fn ask_pad(&mut self) {
+        let wells = self.size.wells;
+        for well in 0..wells {
+            let mut item = || self.dice.below(u64::from(ITEMS / wells)) as u8 * wells;
+            let (one, other, next) = (item() + well, item() + well, item() + (well + 1) % wells);
+            let depth = self.depth - self.dice.between(0, self.size.step);
+            self.send(query(has(one, EVERY), depth));
+            self.send(spans(other, WET));
+            self.send(query(link(other, FEEDS, one), depth));
+            self.send(query(link(one, FEEDS, next), depth));
+        }
+    }
+
+    /// Takes the links between two wells.
+    fn part_wells(&mut self) {
+        let wells = self.size.wells;
+        let between = |mark: &&Mark| {
+            let [one, other] = mark.fact.items();
+            one % wells != other % wells
+        };
+        let mistakes: Vec<Mark> = self.marks.iter().filter(between).copied().collect();
+        let takes = mistakes.into_iter().map(Record::Take);
+        takes.for_each(|record| self.send_mark(record));
     }
 
     /// What is there at the hole's ends and directly outside.

@@ -8,10 +8,13 @@ mod ends;
 mod hole_cases;
 mod hole_seen;
 mod holes;
+mod joined_cases;
+mod joined_seen;
 mod plan;
 mod source;
 mod stream;
 mod tally;
+mod wells;
 
 use std::process::ExitCode;
 use std::time::{Duration, Instant};

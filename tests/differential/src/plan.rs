@@ -13,6 +13,8 @@ pub struct Plan {
     pub rules: u64,
     pub marks: u64,
     pub depths: u64,
+    /// Marks and questions about links.
+    pub linked: u64,
     /// Ends of marks at a depth outside the usual few.
     pub fresh: u64,
     /// Marks that are stretches.
@@ -35,6 +37,10 @@ pub struct Plan {
     pub digs: u64,
     /// Records about the hole's ends and what lies beside them.
     pub brinks: u64,
+    /// Records about wells: what joins items, parts them, makes one bad, and questions.
+    pub pads: u64,
+    /// Links of the chain that a pad starts with.
+    pub chain: usize,
     pub never: u64,
     pub edge: u64,
     pub damage: u64,
@@ -54,6 +60,7 @@ fn small(dice: &mut Dice) -> Plan {
         rules: dice.below(16),
         marks: dice.below(24),
         depths: 2 + dice.below(10),
+        linked: 40,
         fresh: 10,
         stretches: dice.pick(&[20, 50, 80]),
         reversed: 4,
@@ -65,6 +72,8 @@ fn small(dice: &mut Dice) -> Plan {
         hole: 40,
         digs: 2,
         brinks: 8,
+        pads: 0,
+        chain: 0,
         never: dice.pick(&[0, 0, 0, 4, 12]),
         edge: 2,
         damage: 1,
@@ -98,6 +107,15 @@ fn deep(dice: &mut Dice, plan: Plan) -> Plan {
         depths: dice.pick(&[94, 95, 96]),
         fresh: dice.pick(&[30, 70]),
         spoil: 8,
+        ..plan
+    }
+}
+
+/// Marks over the whole range.
+fn widest(plan: Plan) -> Plan {
+    Plan {
+        top: -10_000,
+        width: 210_001,
         ..plan
     }
 }
@@ -199,9 +217,48 @@ fn crowded(dice: &mut Dice, plan: Plan) -> Plan {
     }
 }
 
+/// Several wells in a section, with few rules, so that some are bad and others are not.
+fn pads(dice: &mut Dice, plan: Plan) -> Plan {
+    let plan = Plan {
+        calls: 60,
+        items: dice.pick(&[6, 10, 16, 16]),
+        kinds: dice.pick(&[1, 2, 3, 8]),
+        rules: dice.below(4),
+        marks: dice.below(18),
+        linked: dice.pick(&[15, 40]),
+        pads: 75,
+        chain: dice.pick(&[0, 2, 4, 8]),
+        never: 0,
+        ..plan
+    };
+    match dice.below(8) {
+        // Nothing but one chain through all items.
+        0 | 1 => Plan {
+            marks: 0,
+            chain: 15,
+            reversed: 0,
+            hole: 0,
+            ..plan
+        },
+        // All places taken, with few links and few bad items.
+        2 => Plan {
+            calls: 20,
+            items: 16,
+            labels: 60,
+            marks: 256,
+            depths: 40,
+            width: 400,
+            linked: 2,
+            chain: 0,
+            ..plan
+        },
+        _ => plan,
+    }
+}
+
 pub fn plan(dice: &mut Dice) -> Plan {
     let plan = small(dice);
-    match dice.below(30) {
+    match dice.below(37) {
         0..=1 => plan,
         2 => points(plan),
         3 | 4 => Plan {
@@ -219,11 +276,7 @@ pub fn plan(dice: &mut Dice) -> Plan {
         12 | 13 => Plan { damage: 45, ..plan },
         14 | 15 => Plan { spoil: 50, ..plan },
         16 => Plan { short: 30, ..plan },
-        17 => Plan {
-            top: -10_000,
-            width: 210_001,
-            ..plan
-        },
+        17 => widest(plan),
         18 => Plan {
             edge: 6,
             damage: 10,
@@ -232,10 +285,11 @@ pub fn plan(dice: &mut Dice) -> Plan {
             ..plan
         },
         19 => switching(dice, plan),
-        20..=22 => counted(plan),
-        23 => digging(dice, plan),
-        24..=26 => brinks(dice, plan),
-        27 | 28 => crowded(dice, plan),
+        20..=23 => counted(plan),
+        24 => digging(dice, plan),
+        25..=28 => brinks(dice, plan),
+        29 | 30 => crowded(dice, plan),
+        31..=35 => pads(dice, plan),
         _ => full(dice, plan),
     }
 }

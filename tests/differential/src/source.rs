@@ -18,11 +18,22 @@ pub const EDGE_DEPTHS: [i32; 7] = [
     -1,
 ];
 
+/// Carries out a record that would not be refused.
+pub fn accept(held: &mut Held, record: &Record) {
+    if record.refusal().or(held.refusal(record)).is_none() {
+        held.accept(record);
+    }
+}
+
 pub struct Source {
     pub dice: Dice,
     pub plan: Plan,
     /// Marks meet at few depths, so that rules find their premises together.
     pub pool: Vec<i32>,
+    /// The items of the mark that a record was last about.
+    pub touched: [u8; 2],
+    /// The ends of the chain that a pad starts with.
+    pub far: [u8; 2],
 }
 
 impl Source {
@@ -32,8 +43,13 @@ impl Source {
         while (pool.len() as u64) < plan.depths {
             pool.insert(dice.between(plan.top, last) as i32);
         }
-        let pool = pool.into_iter().collect();
-        Source { dice, plan, pool }
+        Source {
+            dice,
+            plan,
+            pool: pool.into_iter().collect(),
+            touched: [0, 0],
+            far: [0, 15],
+        }
     }
 
     /// One of the edge values now and then, else the usual one.
@@ -49,12 +65,12 @@ impl Source {
         self.or_edge(usual, &[0, 15, 16, 255])
     }
 
-    fn kind(&mut self) -> u8 {
+    pub fn kind(&mut self) -> u8 {
         let usual = self.dice.below(self.plan.kinds.into()) as u8;
         self.or_edge(usual, &[0, 7, 8, 255])
     }
 
-    fn label(&mut self, first: u8) -> u8 {
+    pub fn label(&mut self, first: u8) -> u8 {
         let usual = self.dice.between(first.into(), self.plan.labels.into()) as u8;
         self.or_edge(usual.min(NEVER - 1), &[0, 1, 62, 63, 64, 255])
     }
@@ -82,7 +98,7 @@ impl Source {
     }
 
     /// Questions stand on marks, beside them, between them and far from them.
-    fn asked_depth(&mut self) -> i64 {
+    pub fn asked_depth(&mut self) -> i64 {
         let marked = i64::from(self.dice.pick(&self.pool));
         let between = self.plan.top - 5 + self.dice.below(self.plan.width as u64 + 10) as i64;
         let usual = self.dice.pick(&[marked, marked - 1, marked + 1, between]);
@@ -128,15 +144,15 @@ impl Source {
     }
 
     pub fn fact(&mut self, first: u8) -> Fact {
-        match self.dice.percent(60) {
-            true => Fact::Label {
-                item: self.item(),
-                label: self.label(first),
-            },
-            false => Fact::Link {
+        match self.dice.percent(self.plan.linked) {
+            true => Fact::Link {
                 from: self.item(),
                 kind: self.kind(),
                 to: self.item(),
+            },
+            false => Fact::Label {
+                item: self.item(),
+                label: self.label(first),
             },
         }
     }
@@ -155,7 +171,7 @@ impl Source {
     }
 
     /// A mark that is held, if any, with the given chance, or else one that goes by it.
-    fn mark_or_held(&mut self, held: &Held, chance: u64) -> Mark {
+    pub fn mark_or_held(&mut self, held: &Held, chance: u64) -> Mark {
         if held.marks.is_empty() {
             return self.mark();
         }
@@ -168,7 +184,7 @@ impl Source {
     }
 
     /// A question at an end of a mark, inside it or beside it.
-    fn question_at(&mut self, held: &Held) -> Record {
+    pub fn question_at(&mut self, held: &Held) -> Record {
         let mark = self.mark_or_held(held, 95);
         let [top, bottom] = mark.ends().map(i64::from);
         let inside = self.dice.between(top.min(bottom), top.max(bottom));
@@ -212,6 +228,17 @@ impl Source {
     }
 
     pub fn record(&mut self, held: &Held) -> Record {
+        let record = self.some_record(held);
+        if let Record::Put(mark) | Record::Take(mark) = record {
+            self.touched = mark.fact.items();
+        }
+        record
+    }
+
+    fn some_record(&mut self, held: &Held) -> Record {
+        if self.dice.percent(self.plan.pads) {
+            return self.pad(held);
+        }
         if self.dice.percent(self.plan.switches) {
             return self.switch();
         }
@@ -279,8 +306,8 @@ impl Source {
                 Record::Rule(_) => held.rules.len() >= room.0,
                 _ => held.marks.len() >= room.1,
             };
-            if !full && record.refusal().or(held.refusal(&record)).is_none() {
-                held.accept(&record);
+            if !full {
+                accept(&mut held, &record);
             }
         }
         held

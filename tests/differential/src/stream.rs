@@ -2,13 +2,16 @@
 
 use crate::cases::Seen;
 use crate::damage::{damage, lengths, refill, spoil, with_rest, WHOLE};
+use crate::joined_seen::{Asked, By};
 use crate::plan::plan;
 use crate::source::Source;
 use crate::tally::Tally;
 use dice::Dice;
 use model::block::{decode, encode, SIZE};
+use model::frame;
+use model::held::Held;
 use model::service::{self, Lent, Memory};
-use model::terms::Answer;
+use model::terms::{Answer, Fact, Record};
 use panel::{Empty, Numbers};
 
 #[derive(Debug)]
@@ -23,12 +26,33 @@ impl Call {
         let no_input = matches!(self, Call::Record(input) if input.is_empty());
         no_input || [lent.block, lent.labels, lent.links, lent.spans].contains(&0)
     }
+
+    /// The record, if the input starts with one of a known kind and length.
+    fn record(&self) -> Option<Record> {
+        match self {
+            Call::Record(input) => frame::split(input).ok().as_ref().map(frame::read),
+            Call::Spans(..) => None,
+        }
+    }
+
+    /// What an answered call asked about, and how.
+    fn question(&self) -> Option<(Fact, By)> {
+        let fact = |item, label| Fact::Label { item, label };
+        match (self, self.record()) {
+            (Call::Spans(item, label), _) => Some((fact(*item as u8, *label as u8), By::SpansCall)),
+            (_, Some(Record::Spans { item, label })) => Some((fact(item, label), By::SpansRecord)),
+            (_, Some(Record::Query(fact, depth))) => Some((fact, By::Query(depth))),
+            _ => None,
+        }
+    }
 }
 
 pub struct Stream {
     source: Source,
     model: Memory,
     real: Memory,
+    /// The record that last changed what is held.
+    last: Option<Record>,
 }
 
 impl Stream {
@@ -37,13 +61,16 @@ impl Stream {
         let plan = plan(&mut dice);
         let mut source = Source::new(dice, plan);
         let mut model = Memory::zeros(WHOLE);
-        model.block[..SIZE].copy_from_slice(&encode(&source.held()));
+        let mut held = source.held();
+        source.lay_pad(&mut held);
+        model.block[..SIZE].copy_from_slice(&encode(&held));
         refill(&mut source.dice, &mut model);
         let real = model.clone();
         Stream {
             source,
             model,
             real,
+            last: None,
         }
     }
 
@@ -68,16 +95,29 @@ impl Stream {
             let lent = format!("{lent:?}, {empty:?}");
             format!("call {number}: {difference}\n{lent}\n{call:x?}\nblock before: {before:x?}")
         })?;
-        tally.count(answer);
-        if let Call::Record(input) = &call {
-            tally.see(&Seen::new(&before, input, answer, &self.model.spans));
-        }
+        self.tell(&call, &before, answer, tally);
         tally.nulls += u64::from(empty == Empty::Null && call.lends_nothing(&lent));
-        if let Some(block) = kept {
-            self.model.block.clone_from(&block);
-            self.real.block.clone_from(&block);
+        match kept {
+            Some(block) => {
+                self.model.block.clone_from(&block);
+                self.real.block.clone_from(&block);
+            }
+            None if answer == Answer::Done => self.last = call.record(),
+            None => {}
         }
         Ok(())
+    }
+
+    /// Tells the tally what the call was and what it met.
+    fn tell(&self, call: &Call, before: &[u8], answer: Answer, tally: &mut Tally) {
+        tally.count(answer);
+        if let Call::Record(input) = call {
+            tally.see(&Seen::new(before, input, answer, &self.model.spans));
+        }
+        let refused = matches!(answer, Answer::Refused(_));
+        let question = call.question().filter(|_| !refused);
+        let asked = question.and_then(|asked| Asked::new(before, asked, answer, self.last));
+        asked.iter().for_each(|asked| tally.see_question(asked));
     }
 
     /// Spoils both blocks by the plan's chance and gives back what they held.
@@ -91,14 +131,19 @@ impl Stream {
         Some(kept)
     }
 
-    fn call(&mut self) -> Call {
+    fn span_call(&mut self, held: &Held) -> Call {
+        let marked = self.source.well_item(held).into();
         let dice = &mut self.source.dice;
-        if dice.percent(8) {
-            let item = dice.pick(&[0, 0, 1, 1, 2, 3, 15, 16, 256, u32::MAX]);
-            let label = dice.pick(&[0, 1, 1, 2, 3, 4, 62, 63, 64, 256, u32::MAX]);
-            return Call::Spans(item, label);
-        }
+        let item = dice.pick(&[0, 0, 1, 1, 2, 3, 15, 16, 256, u32::MAX]);
+        let label = dice.pick(&[0, 1, 1, 2, 3, 4, 62, 63, 64, 256, u32::MAX]);
+        Call::Spans(dice.pick(&[item, marked]), label)
+    }
+
+    fn call(&mut self) -> Call {
         let held = decode(&self.model.block).unwrap_or_default();
+        if self.source.dice.percent(8) {
+            return self.span_call(&held);
+        }
         let record = self.source.record(&held);
         let input = self.source.written(&record);
         let dice = &mut self.source.dice;

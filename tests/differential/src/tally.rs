@@ -2,6 +2,8 @@
 
 use crate::cases::{Case, Seen, CASES};
 use crate::hole_cases::HOLE_CASES;
+use crate::joined_cases::JOINED_CASES;
+use crate::joined_seen::Asked;
 use model::terms::{Answer, REFUSALS, REFUSAL_PLACES};
 
 const NAMES: [&str; 7] = [
@@ -23,6 +25,7 @@ pub struct Tally {
     answers: [u64; 7],
     refusals: [u64; REFUSAL_PLACES],
     cases: Vec<u64>,
+    joined: Vec<u64>,
 }
 
 fn all_cases() -> impl Iterator<Item = &'static Case> {
@@ -39,6 +42,7 @@ impl Tally {
     pub fn new() -> Tally {
         Tally {
             cases: vec![0; all_cases().count()],
+            joined: vec![0; JOINED_CASES.len()],
             ..Tally::default()
         }
     }
@@ -58,6 +62,12 @@ impl Tally {
         }
     }
 
+    pub fn see_question(&mut self, asked: &Asked) {
+        for ((_, fits), count) in JOINED_CASES.iter().zip(&mut self.joined) {
+            *count += u64::from(fits(asked));
+        }
+    }
+
     /// The refusals in the order in which they are tested.
     fn refusals(&self) -> impl Iterator<Item = (String, u64)> + '_ {
         let counted = |number: u32| (format!("{number}:"), self.refusals[number as usize]);
@@ -65,8 +75,11 @@ impl Tally {
     }
 
     fn cases(&self) -> impl Iterator<Item = (String, u64)> + '_ {
-        let names = all_cases().map(|(name, _)| format!("{name}:"));
-        names.zip(self.cases.iter().copied())
+        let names = all_cases().map(|(name, _)| name);
+        let joined = JOINED_CASES.iter().map(|(name, _)| name);
+        let counts = self.cases.iter().chain(&self.joined).copied();
+        let names = names.chain(joined).map(|name| format!("{name}:"));
+        names.zip(counts)
     }
 
     pub fn print(&self) {

@@ -6,6 +6,7 @@ pub mod depths;
 pub mod derive;
 pub mod frame;
 pub mod held;
+pub mod joined;
 pub mod listing;
 pub mod service;
 pub mod short;

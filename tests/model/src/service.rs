@@ -6,7 +6,7 @@ use crate::derive::Collection;
 use crate::frame;
 use crate::held::Held;
 use crate::tables::{self, LABEL_ENTRIES, LINK_ENTRIES};
-use crate::terms::{Answer, Record, ITEMS, LABELS};
+use crate::terms::{Answer, Fact, Record, ITEMS, LABELS};
 
 pub const SPAN_NUMBERS: usize = 194;
 
@@ -86,12 +86,10 @@ fn handle(memory: &mut Memory, mut held: Held, record: &Record) -> Answer {
         return Answer::Refused(number);
     }
     match *record {
-        Record::Query(fact, depth) => {
-            ask(memory, &held, |_, found| match found.of(fact).has(depth) {
-                true => Answer::Yes,
-                false => Answer::No,
-            })
-        }
+        Record::Query(fact, depth) => ask(memory, &held, fact, |_, set| match set.has(depth) {
+            true => Answer::Yes,
+            false => Answer::No,
+        }),
         Record::Spans { item, label } => spans(memory, &held, item, label),
         _ => {
             held.accept(record);
@@ -101,25 +99,27 @@ fn handle(memory: &mut Memory, mut held: Held, record: &Record) -> Answer {
     }
 }
 
-/// Derives, lays out both tables and answers unless there is a contradiction.
+/// Derives, lays out both tables and answers from the depths of what is asked, unless an item
+/// joined to it is contradictory.
 fn ask(
     memory: &mut Memory,
     held: &Held,
-    answer: impl Fn(&mut Memory, &Collection) -> Answer,
+    asked: Fact,
+    answer: impl Fn(&mut Memory, &Depths) -> Answer,
 ) -> Answer {
     let found = Collection::least(held);
     let depths = tables::representatives(held);
     memory.labels[..LABEL_ENTRIES].copy_from_slice(&tables::label_table(&found, &depths));
     memory.links[..LINK_ENTRIES].copy_from_slice(&tables::link_table(&found, &depths));
-    match found.contradiction() {
+    match found.contradiction(asked) {
         Some(item) => Answer::Contradiction(item.into()),
-        None => answer(memory, &found),
+        None => answer(memory, found.of(asked)),
     }
 }
 
 fn spans(memory: &mut Memory, held: &Held, item: u8, label: u8) -> Answer {
-    ask(memory, held, |memory, found| {
-        let pairs = pairs(found.label(item, label));
+    ask(memory, held, Fact::Label { item, label }, |memory, set| {
+        let pairs = pairs(set);
         memory.spans[..pairs.len()].copy_from_slice(&pairs);
         Answer::Spans(pairs.len() as u32 / 2)
     })

@@ -91,6 +91,16 @@ pub enum Fact {
     Link { from: u8, kind: u8, to: u8 },
 }
 
+impl Fact {
+    /// The items that it is about: both ends of a link, or a label's item twice.
+    pub fn items(self) -> [u8; 2] {
+        match self {
+            Fact::Label { item, .. } => [item, item],
+            Fact::Link { from, to, .. } => [from, to],
+        }
+    }
+}
+
 /// True at each depth from top to bottom, both included.
 #[derive(Clone, Copy, Debug, PartialEq, Eq, Hash)]
 pub struct Mark {

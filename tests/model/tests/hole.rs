@@ -73,7 +73,7 @@ fn contradiction_goes_first() {
     let rules = [label(within(1), EVERY, 1), label(within(1), 1, NEVER)];
     for depth in [i64::MIN, 9, 10, 31] {
         let asked = [rules[0], rules[1], query(has(3, 5), depth)];
-        assert_eq!(last(&asked), "contradiction 0");
+        assert_eq!(last(&asked), "contradiction 3");
     }
     assert_eq!(last(&[rules[0], query(has(3, 5), 31)]), "no");
 }

@@ -143,7 +143,7 @@ fn contradiction_where_stretches_meet() {
             put_from_to(has(4, 1), 10, 20),
             put_from_to(has(4, 2), top, 30),
         ];
-        last(&[never, marks[0], marks[1], query(has(0, EVERY), 0)])
+        last(&[never, marks[0], marks[1], query(has(4, EVERY), 0)])
     };
     assert_eq!(met(20), "contradiction 4");
     assert_eq!(met(21), "yes");

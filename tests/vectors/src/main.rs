@@ -3,6 +3,7 @@
 mod cases;
 mod countings;
 mod hole;
+mod joined;
 mod script;
 mod stretches;
 
@@ -12,53 +13,66 @@ use std::path::PathBuf;
 
 const MAX_SCRIPT: usize = 65_536;
 
+/// What the script goes through, in this order; new cases stand behind the old ones.
+const CASES: &[fn(&mut Script)] = &[
+    cases::patterns,
+    cases::example,
+    cases::refused_frames,
+    cases::refused_bodies,
+    cases::short_memory,
+    cases::bad_blocks,
+    cases::neighbouring_marks,
+    cases::ends_of_the_range,
+    cases::operators,
+    cases::links,
+    cases::contradictions,
+    cases::full_lists,
+    cases::all_depths,
+    stretches::operators,
+    stretches::beside_each_other,
+    stretches::either_kind,
+    stretches::refused_bodies,
+    stretches::ends_of_the_range,
+    stretches::links,
+    stretches::bad_blocks,
+    stretches::all_ends,
+    stretches::full_list,
+    cases::the_end,
+    countings::setting,
+    countings::refused,
+    countings::operators,
+    countings::widest_gap,
+    countings::links,
+    countings::contradiction,
+    countings::byte_of_the_block,
+    countings::poked_counting,
+    cases::the_end,
+    hole::giving,
+    hole::refused,
+    hole::operators,
+    hole::links,
+    hole::marks,
+    hole::all_ends,
+    hole::contradiction,
+    hole::bytes_of_the_block,
+    hole::poked_hole,
+    cases::the_end,
+    joined::chain,
+    joined::wells,
+    joined::ends_apart,
+    joined::either_way,
+    joined::loops,
+    joined::named,
+    joined::one_link,
+    joined::other_depths,
+    joined::derived,
+    joined::all_bad,
+    cases::the_end,
+];
+
 fn build() -> Script {
     let mut script = Script::new();
-    let cases = [
-        cases::patterns,
-        cases::example,
-        cases::refused_frames,
-        cases::refused_bodies,
-        cases::short_memory,
-        cases::bad_blocks,
-        cases::neighbouring_marks,
-        cases::ends_of_the_range,
-        cases::operators,
-        cases::links,
-        cases::contradictions,
-        cases::full_lists,
-        cases::all_depths,
-        stretches::operators,
-        stretches::beside_each_other,
-        stretches::either_kind,
-        stretches::refused_bodies,
-        stretches::ends_of_the_range,
-        stretches::links,
-        stretches::bad_blocks,
-        stretches::all_ends,
-        stretches::full_list,
-        cases::the_end,
-        countings::setting,
-        countings::refused,
-        countings::operators,
-        countings::widest_gap,
-        countings::links,
-        countings::contradiction,
-        countings::byte_of_the_block,
-        countings::poked_counting,
-        cases::the_end,
-        hole::giving,
-        hole::refused,
-        hole::operators,
-        hole::links,
-        hole::marks,
-        hole::all_ends,
-        hole::contradiction,
-        hole::bytes_of_the_block,
-        hole::poked_hole,
-        cases::the_end,
-    ];
-    cases.into_iter().for_each(|case| case(&mut script));
+    CASES.iter().for_each(|case| case(&mut script));
     script
 }
 

@@ -8,8 +8,8 @@ use Rattle.questions.proofs.answer.Tie as tie
 derive-requires : tie.Need-derive-requires
 derive-requires c κs = search needs
 
-clash-in-requires : tie.Need-clash-in-requires
-clash-in-requires c κs = search needs
+clash-of-requires : tie.Need-clash-of-requires
+clash-of-requires c κs = search needs
 
 enum-known-item : tie.Need-enum-known-item
 enum-known-item c = search needs
@@ -45,8 +45,8 @@ returns c =
     let clash = c .before .before .before in
     let derived = clash .before .before .before .before .before .before in
     let start = derived .before .before .before .before .before .before .before in
-    contradictory (start .args .state) (start .pre .held-state) _ _ _ _ (derived .derive .ensures .tables) _ (clash .clash-in .ensures)
-    (start .args .question) (start .pre .named) _ _ (c .before .item .given .1)
+    contradictory (start .args .state) (start .pre .held-state) _ _ _ _ (derived .derive .ensures .tables) _
+    (start .args .question) (start .pre .named) (clash .clash-of .ensures) _ _ (c .before .item .given .1)
 
 same-length-3 : tie.Need-same-length-3
 same-length-3 c = search needs
@@ -63,8 +63,8 @@ returns-2 c =
     let clash = at-enum-told .before .before in
     let derived = clash .before .before .before .before .before .before in
     let start = derived .before .before .before .before .before .before .before in
-    plain (start .args .state) (start .pre .held-state) _ _ _ _ (derived .derive .ensures .tables) _ (clash .clash-in .ensures)
-    (start .args .question) (start .pre .named) _ (at-enum-told .enum-told .given .1) _ _ (derived .derive .ensures .cuts) _ _
+    plain (start .args .state) (start .pre .held-state) _ _ _ _ (derived .derive .ensures .tables) _
+    (start .args .question) (start .pre .named) (clash .clash-of .ensures) _ (at-enum-told .enum-told .given .1) _ _ (derived .derive .ensures .cuts) _ _
     (c .before .read-off .ensures)
 
 pub answer-spec : {M : Type 1} → statement M
@@ -72,7 +72,7 @@ answer-spec =
     tie.close
     (tie.spec
     derive-requires
-    clash-in-requires
+    clash-of-requires
     enum-known-item
     enum-told
     read-off-requires
