@@ -73,13 +73,6 @@ or-false : (b : Bool) → (b || false) ≡ b
 or-false true = refl
 or-false false = refl
 
-turned : (x y : ℕ) → eqb x y ≡ eqb y x
-turned x y = go (ℕ-discrete x y)
-  where
-    go : Dec (x ≡ y) → eqb x y ≡ eqb y x
-    go (yes e) = eq-eqb x y e ∙ sym (eq-eqb y x (sym e))
-    go (no e) = ne-eqb x y e ∙ sym (ne-eqb y x (λ d. e (sym d)))
-
 -- two numbers are one afterwards exactly if both were in the two classes, or they were one before
 renamed-same : (from into x y : ℕ) → eqb (renamedTo from into x) (renamedTo from into y) ≡ cond (eqb into x || eqb from x) (eqb into y || eqb from y) (eqb x y)
 renamed-same from into x y = go (ℕ-discrete x from) (ℕ-discrete y from) (ℕ-discrete into x)

@@ -13,7 +13,7 @@ use terms::Mark;
 use terms::Question;
 use terms::wide;
 
-pub const ITEMS: usize = terms::ITEMS as usize;
+const ITEMS: usize = terms::ITEMS as usize;
 
 // The number of an item's class when the class `from` has gone into the class `into`.
 fn renamed(class: u8, from: u8, into: u8) -> u8

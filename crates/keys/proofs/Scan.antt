@@ -6,18 +6,12 @@ use Prim.Native.Nat.{ℕ, zero, suc, _+_, _-_, _≤_, _<_}
 use native.Mathlib.Omega.{arith}
 use native.Mathlib.Numerals.{add-one}
 use borrow.Author.Tests.{lt-ltb, le-ltb, ne-eqb}
-use lib.Dec.{T, eqb, ltb, lt→ltb, ltb→lt, leb·suc-suc, eqb·suc-suc}
+use lib.Dec.{eqb, ltb, lt→ltb, ltb→lt, leb·suc-suc, eqb·suc-suc}
 use lib.ListN.{length, getD, take, drop, set, length-take, length-drop, length-map}
 use lib.Seq.{drop-cons, drop-length, take-suc, take-suc-set}
+use Rattle.terms.specs.Tests.{same-test}
 use Rattle.terms.specs.Lists.{some, every, strike, once}
 use Rattle.keys.specs.Search.{indexOf, distinct}
-
--- two tests that hold together are one
-pub test-eq : (a b : Bool) → (T a → T b) → (T b → T a) → a ≡ b
-test-eq true true f g = refl
-test-eq true false f g = absurd (f tt)
-test-eq false true f g = absurd (g tt)
-test-eq false false f g = refl
 
 -- an array of structs is owned as the list of its elements' values
 pub length-of-map : (A B : Type 0) (f : A → B) (l : List A) (n : ℕ) → length (map f l) ≡ n → length l ≡ n
@@ -39,7 +33,7 @@ or-true false = refl
 
 ltb-add : (a p n : ℕ) → a ≤ n → ltb (a + p) n ≡ ltb p (n - a)
 ltb-add a p n h =
-    test-eq (ltb (a + p) n) (ltb p (n - a))
+    same-test (ltb (a + p) n) (ltb p (n - a))
     (λ t. lt→ltb p (n - a) (omega (arith, ltb→lt (a + p) n t)))
     (λ t. lt→ltb (a + p) n (omega (arith, ltb→lt p (n - a) t)))
 

@@ -25,7 +25,7 @@ use Rattle.terms.specs.declared.Atom.{Atom}
 use Rattle.terms.specs.declared.Atom.the-variants.{Has, Linked}
 use Rattle.terms.specs.declared.Mark.{Mark}
 use Rattle.terms.specs.declared.Question.{Question}
-use Rattle.terms.specs.Tests.{and-both, or-one, or-left, or-right}
+use Rattle.terms.specs.Tests.{and-both, or-one, or-left, or-right, same-test}
 use Rattle.terms.specs.Holes.{isInside}
 use Rattle.terms.specs.Held.{_∈_, Held, holeIn}
 use Rattle.terms.specs.Ends.{at-top}
@@ -162,18 +162,12 @@ joined-test h R a b = (λ t. joined-by-marks h R a b .1 (joined-exact (h .marks)
 
 -- it depends on which marks are held alone, not on their order: so a loop may take them from the first to the last
 pub joined-same : (ms ns : List Mark) → ((m : Mark) → m ∈ ms → m ∈ ns) → ((m : Mark) → m ∈ ns → m ∈ ms) → (a b : ℕ) → joinedB ms a b ≡ joinedB ns a b
-joined-same ms ns f g a b = both (joinedB ms a b) (joinedB ns a b)
+joined-same ms ns f g a b = same-test (joinedB ms a b) (joinedB ns a b)
     (λ t. joined-exact ns a b .1 (chain-map (λ c d l. over ms ns f c d l) (joined-exact ms a b .0 t)))
     (λ t. joined-exact ms a b .1 (chain-map (λ c d l. over ns ms g c d l) (joined-exact ns a b .0 t)))
   where
     over : (xs ys : List Mark) → ((m : Mark) → m ∈ xs → m ∈ ys) → (c d : ℕ) → LinkMark xs c d → LinkMark ys c d
     over xs ys k c d l = record { mark = l .mark; kind = l .kind; held = k (l .mark) (l .held); says = l .says }
-
-    both : (s t : Bool) → (T s → T t) → (T t → T s) → s ≡ t
-    both true true p q = refl
-    both true false p q = absurd (p tt)
-    both false true p q = absurd (q tt)
-    both false false p q = refl
 
 pub joined-next : (ms : List Mark) (m : Mark) (a b : ℕ) → joinedB (ms ++ (m ∷ [])) a b ≡ joinedBy (m .atom) (joinedB ms) a b
 unfolding joinedB

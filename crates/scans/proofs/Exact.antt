@@ -26,7 +26,7 @@ use Rattle.terms.specs.Names.{label-names, link-names, markable-statement}
 use Rattle.terms.specs.SameLaws.{same-rule, same-mark, mark-same, same-depth, depth-same}
 use Rattle.scans.specs.Keys.{packedFields, tagOf, ruleKey, depthKey, ATOM-ROOM, END-ROOM, atomNumber, endNumber, markKey}
 use Rattle.scans.specs.Keys.{Bytes, ByteRule, MarkFits, DepthFits}
-use Rattle.keys.proofs.Scan.{test-eq}
+use Rattle.terms.specs.Tests.{same-test}
 
 equal : (a b : ℕ) → a ≡ b → T (eqb a b)
 equal a b e = of-true (eq-eqb a b e)
@@ -35,7 +35,7 @@ equal a b e = of-true (eq-eqb a b e)
 told : {X : Type 0} (key : X → ℕ) (alike : X → X → Bool) → ((x y : X) → T (alike x y) → x ≡ y) → (x y : X) → (key x ≡ key y → T (alike x y)) →
     eqb (key x) (key y) ≡ alike x y
 told key alike same x y back =
-    test-eq (eqb (key x) (key y)) (alike x y) (λ t. back (eqb→eq (key x) (key y) t)) (λ t. equal (key x) (key y) (ap key (same x y t)))
+    same-test (eqb (key x) (key y)) (alike x y) (λ t. back (eqb→eq (key x) (key y) t)) (λ t. equal (key x) (key y) (ap key (same x y t)))
 
 pub code-small : (o : Operator) → codeOf o < 8
 code-small (Within n) = omega arith

@@ -1,14 +1,14 @@
 -- The laws of the hole: a depth in it, what lies between two of its depths, the line's two ends, and what parts two of its depths. Assumes nothing.
 use mathlib.Core.Path.{_≡_, refl}
 use mathlib.Core.Logic.{inl, inr, ⊎-elim, _↔_}
-use mathlib.Core.Bool.{Bool, true, false, _&&_}
+use mathlib.Core.Bool.{Bool, _&&_}
 use lib.Dec.{T}
 use lib.IntN.{ℤ, pos, predℤ}
 use lib.Signed.{_≤ℤ_, _<ℤ_, leZ, ltZ, leZ-yes, ltZ-yes}
 use Rattle.terms.specs.declared.Hole.{Hole}
 use Rattle.terms.specs.declared.Hole.the-variants.{Whole, Part}
 use Rattle.terms.specs.Order.{ints, pred-is, ≤-refl}
-use Rattle.terms.specs.Tests.{and-both, both-and}
+use Rattle.terms.specs.Tests.{and-both, both-and, same-test}
 use Rattle.terms.specs.Limits.{SHALLOWEST, DEEPEST, NO-TOP, NO-BOTTOM, isDepth}
 use Rattle.terms.specs.Holes.{isInside, InHole, isHole}
 use Rattle.terms.specs.Spans.{Run, run, Covers, Ordered}
@@ -99,12 +99,6 @@ cut-within (Part t b) c g l m s =
     (omega (ints, u .0, pred-is c), v .1)
 
 -- ---- the test that code makes
-
-same-test : (a b : Bool) → (T a → T b) → (T b → T a) → a ≡ b
-same-test true true f g = refl
-same-test true false f g = absurd (f tt)
-same-test false true f g = absurd (g tt)
-same-test false false f g = refl
 
 -- a cut of a hole, by its ends
 pub part-cut : (t b c : ℤ) → (ltZ t c && leZ c b) ≡ isCut (Part t b) c

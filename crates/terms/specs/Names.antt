@@ -1,4 +1,5 @@
 -- The names in a statement, as numbers. Assumes nothing.
+use mathlib.Core.Path.{_≡_, subst}
 use mathlib.Core.Bool.{_&&_}
 use Prim.Native.Nat.{ℕ, _<_}
 use native.Mathlib.Omega.{arith}
@@ -17,6 +18,13 @@ link-names a r b t =
     let w = and-both (isItem a) (isKind r && isItem b) t in
     let v = and-both (isKind r) (isItem b) (w .1) in
     (ltb→lt a ITEMS (w .0), ltb→lt r KINDS (v .0), ltb→lt b ITEMS (v .1))
+
+-- of a statement that was matched
+pub names-of-label : (x : Atom) (a A : ℕ) → x ≡ Has a A → T (isStatement x) → (a < ITEMS) × (A < LABELS)
+names-of-label x a A e t = label-names a A (subst (λ y. T (isStatement y)) e t)
+
+pub names-of-link : (x : Atom) (a r b : ℕ) → x ≡ Linked a r b → T (isStatement x) → (a < ITEMS) × (r < KINDS) × (b < ITEMS)
+names-of-link x a r b e t = link-names a r b (subst (λ y. T (isStatement y)) e t)
 
 -- what may be marked may be asked
 marked-label : (A : ℕ) → T (isMarked A) → T (isLabel A)

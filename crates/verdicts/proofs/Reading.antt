@@ -1,17 +1,15 @@
 -- What a search that stops at the first hit has found, and the names and the bit of a statement. Assumes nothing.
-use mathlib.Core.Path.{_≡_, refl, sym, ap, subst}
+use mathlib.Core.Path.{_≡_, refl, sym, ap}
 use mathlib.Core.Bool.{Bool, true, false}
 use mathlib.Core.List.{List}
 use Prim.Native.Nat.{ℕ, zero, suc, _+_, _*_, _<_}
 use native.Mathlib.Omega.{arith}
-use lib.Dec.{T, eqb}
+use lib.Dec.{eqb}
 use lib.ListN.{getD}
 use Rattle.terms.specs.declared.Atom.{Atom}
 use Rattle.terms.specs.declared.Atom.the-variants.{Has, Linked}
 use Rattle.terms.specs.Tests.{of-true, true-of}
-use Rattle.terms.specs.Limits.{ITEMS, INTERVALS, KINDS, LABELS, NEVER}
-use Rattle.terms.specs.Names.{label-names, link-names}
-use Rattle.terms.specs.Held.{isStatement}
+use Rattle.terms.specs.Limits.{ITEMS, INTERVALS, NEVER}
 use Rattle.words.specs.Bit.{bitAt}
 use Rattle.spans.specs.Runs.{hasLabel}
 use Rattle.verdicts.specs.declared.Clash.the-variants.{Nowhere, Item}
@@ -51,13 +49,6 @@ unfolding clashIn
 clash-absent J labels h = sym (ap clashOf (lowest-absent (clashesIn J labels) ITEMS 0 (λ q l. h q (omega arith))))
 
 -- ---- a statement
-
--- the names in it, as numbers
-pub names-of-label : (x : Atom) (a A : ℕ) → x ≡ Has a A → T (isStatement x) → (a < ITEMS) × (A < LABELS)
-names-of-label x a A e t = label-names a A (subst (λ y. T (isStatement y)) e t)
-
-pub names-of-link : (x : Atom) (a r b : ℕ) → x ≡ Linked a r b → T (isStatement x) → (a < ITEMS) × (r < KINDS) × (b < ITEMS)
-names-of-link x a r b e t = link-names a r b (subst (λ y. T (isStatement y)) e t)
 
 -- its bit, found under the names as the code has them
 module _ (labels links : List ℕ) (x : Atom) (p : ℕ) where

@@ -5,27 +5,24 @@ use native.Mathlib.Omega.{arith}
 use lib.Dec.{T}
 use lib.IntN.{ℤ}
 use Rattle.terms.specs.declared.Atom.{Atom}
-use Rattle.terms.specs.declared.Atom.the-variants.{Has, Linked}
 use Rattle.terms.specs.declared.Question.{Question}
 use Rattle.terms.specs.declared.Question.the-variants as Question
-use Rattle.terms.specs.Limits.{ITEMS, LABELS, KINDS}
-use Rattle.terms.specs.Held.{isQuestion}
-use Rattle.terms.specs.Names.{label-names, link-names}
+use Rattle.terms.specs.Limits.{ITEMS, LABELS}
+use Rattle.terms.specs.Held.{isStatement, isQuestion}
+use Rattle.terms.specs.Names.{label-names, names-of-label, names-of-link}
 use Rattle.logic.specs.Joined.{about}
 use Rattle.joined.proofs.Joining.{concerned-one, concerned-two}
 use borrow.Author.Needs.{needs}
 use Rattle.joined.proofs.concerned.Statement.{statement}
 use Rattle.joined.proofs.concerned.Tie as tie
 
--- the names in a question
+-- the item of a question for spans
 spans-item : (q : Question) (a A : ℕ) → q ≡ Question.Spans a A → T (isQuestion q) → (a < ITEMS) × (A < LABELS)
 spans-item q a A e t = label-names a A (subst (λ (p : Question). T (isQuestion p)) e t)
 
-label-item : (q : Question) (a A : ℕ) (i : ℤ) → q ≡ Question.Holds (Has a A) i → T (isQuestion q) → (a < ITEMS) × (A < LABELS)
-label-item q a A i e t = label-names a A (subst (λ (p : Question). T (isQuestion p)) e t)
-
-link-items : (q : Question) (a r b : ℕ) (i : ℤ) → q ≡ Question.Holds (Linked a r b) i → T (isQuestion q) → (a < ITEMS) × (r < KINDS) × (b < ITEMS)
-link-items q a r b i e t = link-names a r b (subst (λ (p : Question). T (isQuestion p)) e t)
+-- a statement that is asked for names what there is
+asked-statement : (q : Question) (x : Atom) (i : ℤ) → q ≡ Question.Holds x i → T (isQuestion q) → T (isStatement x)
+asked-statement q x i e t = subst (λ (p : Question). T (isQuestion p)) e t
 
 -- the statement that is asked for, as it was matched
 matched : (q : Question) (x y : Atom) (i : ℤ) → q ≡ Question.Holds x i → x ≡ y → q ≡ Question.Holds y i
@@ -61,8 +58,7 @@ either-requires-2 c κs =
     let atom = c .before .before in
     let asked = atom .before .before .before in
     let classes = asked .before .before in
-    let e = matched _ _ _ _ (asked .question2 .given .1) (atom .atom .given .1) in
-    let names = label-item _ _ _ _ e (classes .before .pre .1) in
+    let names = names-of-label _ _ _ (atom .atom .given .1) (asked-statement _ _ _ (asked .question2 .given .1) (classes .before .pre .1)) in
     (classes .classes-of .ensures .size, omega (arith, c .wide2 .ensures, names .0), omega (arith, c .wide2 .ensures, names .0))
 
 enum-known-atom-2 : tie.Need-enum-known-atom-2
@@ -79,8 +75,7 @@ either-requires-3 c κs =
     let atom = c .before .before .before in
     let asked = atom .before .before .before in
     let classes = asked .before .before in
-    let e = matched _ _ _ _ (asked .question2 .given .1) (atom .atom2 .given .1) in
-    let names = link-items _ _ _ _ _ e (classes .before .pre .1) in
+    let names = names-of-link _ _ _ _ (atom .atom2 .given .1) (asked-statement _ _ _ (asked .question2 .given .1) (classes .before .pre .1)) in
     (classes .classes-of .ensures .size, omega (arith, c .before .wide3 .ensures, names .0), omega (arith, c .wide4 .ensures, names .2))
 
 returns : tie.Need-returns
@@ -100,9 +95,10 @@ returns-2 c =
     let asked = atom .before .before .before in
     let classes = asked .before .before in
     let start = classes .before in
-    let e = matched _ _ _ _ (asked .question2 .given .1) (atom .atom .given .1) in
-    concerned-one _ _ (classes .classes-of .ensures) (start .args .question) _ _ _ (ap about e) (wide .wide2 .ensures) (label-item _ _ _ _ e (start .pre .1) .0)
-    (c .either2 .ensures)
+    let e = asked .question2 .given .1 in
+    let f = atom .atom .given .1 in
+    concerned-one _ _ (classes .classes-of .ensures) (start .args .question) _ _ _ (ap about (matched _ _ _ _ e f)) (wide .wide2 .ensures)
+    (names-of-label _ _ _ f (asked-statement _ _ _ e (start .pre .1)) .0) (c .either2 .ensures)
 
 returns-3 : tie.Need-returns-3
 returns-3 c =
@@ -111,10 +107,11 @@ returns-3 c =
     let asked = atom .before .before .before in
     let classes = asked .before .before in
     let start = classes .before in
-    let e = matched _ _ _ _ (asked .question2 .given .1) (atom .atom2 .given .1) in
-    let names = link-items _ _ _ _ _ e (start .pre .1) in
-    concerned-two _ _ (classes .classes-of .ensures) (start .args .question) _ _ _ _ _ (ap about e) (wide .before .wide3 .ensures) (wide .wide4 .ensures)
-    (names .0) (names .2) (c .either3 .ensures)
+    let e = asked .question2 .given .1 in
+    let f = atom .atom2 .given .1 in
+    let names = names-of-link _ _ _ _ f (asked-statement _ _ _ e (start .pre .1)) in
+    concerned-two _ _ (classes .classes-of .ensures) (start .args .question) _ _ _ _ _ (ap about (matched _ _ _ _ e f)) (wide .before .wide3 .ensures)
+    (wide .wide4 .ensures) (names .0) (names .2) (c .either3 .ensures)
 
 pub concerned-spec : {M : Type 1} → statement M
 concerned-spec =

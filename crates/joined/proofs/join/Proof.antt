@@ -1,21 +1,10 @@
 -- A label joins nothing; a link makes the classes of its ends one, if they are two.
-use mathlib.Core.Path.{_≡_, subst}
-use Prim.Native.Nat.{ℕ, _<_}
 use native.Mathlib.Omega.{arith}
-use lib.Dec.{T}
-use Rattle.terms.specs.declared.Atom.{Atom}
-use Rattle.terms.specs.declared.Atom.the-variants.{Linked}
-use Rattle.terms.specs.Limits.{ITEMS, KINDS}
-use Rattle.terms.specs.Held.{isMarkable}
-use Rattle.terms.specs.Names.{link-names}
+use Rattle.terms.specs.Names.{names-of-link, markable-statement}
 use Rattle.joined.proofs.Joining.{merged-same, with-label, with-link}
 use borrow.Author.Needs.{needs}
 use Rattle.joined.proofs.join.Statement.{statement}
 use Rattle.joined.proofs.join.Tie as tie
-
--- the ends of a link that may be marked are items
-names : (x : Atom) (a r b : ℕ) → x ≡ Linked a r b → T (isMarkable x) → (a < ITEMS) × (r < KINDS) × (b < ITEMS)
-names x a r b e t = link-names a r b (subst (λ y. T (isMarkable y)) e t)
 
 enum-told : tie.Need-enum-told
 enum-told c = search needs
@@ -29,7 +18,9 @@ wide-requires c κs = search needs
 element-copy-out-one : tie.Need-element-copy-out-one
 element-copy-out-one c =
     let atom = c .before .before in
-    omega (arith, c .wide .ensures, names _ _ _ _ (atom .atom .given .1) (atom .before .before .pre .1) .0)
+    let start = atom .before .before in
+    let names = names-of-link _ _ _ _ (atom .atom .given .1) (markable-statement (start .args .atom) (start .pre .1)) in
+    omega (arith, c .wide .ensures, names .0)
 
 wide-requires-2 : tie.Need-wide-requires-2
 wide-requires-2 c κs = search needs
@@ -37,7 +28,9 @@ wide-requires-2 c κs = search needs
 element-copy-out-other : tie.Need-element-copy-out-other
 element-copy-out-other c =
     let atom = c .before .before .before .before in
-    omega (arith, c .wide2 .ensures, names _ _ _ _ (atom .atom .given .1) (atom .before .before .pre .1) .2)
+    let start = atom .before .before in
+    let names = names-of-link _ _ _ _ (atom .atom .given .1) (markable-statement (start .args .atom) (start .pre .1)) in
+    omega (arith, c .wide2 .ensures, names .2)
 
 merge-requires : tie.Need-merge-requires
 merge-requires c κs = search needs

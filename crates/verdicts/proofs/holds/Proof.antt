@@ -3,7 +3,8 @@ use Prim.Native.Nat.{_<_}
 use native.Mathlib.Omega.{arith}
 use borrow.Author.Needs.{needs}
 use Rattle.terms.specs.Limits.{ITEMS, KINDS, LABELS}
-use Rattle.verdicts.proofs.Reading.{names-of-label, names-of-link, label-held, link-held}
+use Rattle.terms.specs.Names.{names-of-label, names-of-link}
+use Rattle.verdicts.proofs.Reading.{label-held, link-held}
 use Rattle.verdicts.proofs.holds.Statement.{statement}
 use Rattle.verdicts.proofs.holds.Tie as tie
 
