@@ -2,14 +2,21 @@
  * Harmikse: the depth label service, as a C library.
  *
  * The caller lends four pieces of memory and the bytes of a record; the library holds nothing between calls, allocates
- * nothing and has no global state. It needs memcpy and memset, and nothing else of the C library.
+ * nothing and has no global state. It needs memcpy and memset, and nothing else of the C library. The archive is for
+ * x86-64.
  *
  *   block   the state: every rule and mark accepted since the last RESET and not taken since, the counting and the
  *           hole. All zeros is the empty state. Keep it from call to call and write it with nothing else: a block that
- *           no run of records leads to is refused with 2.
+ *           no run of records leads to is refused with 2. That is no checksum: a changed byte may make another block
+ *           that some run leads to.
  *   labels  the label table, 64-bit numbers: entry item * 193 + piece, bit = label.
  *   links   the link table, bytes: entry (from * 16 + to) * 193 + piece, bit = link kind.
- *   spans   the span buffer: pairs of top and bottom, in centimetres.
+ *   spans   the span buffer: pairs of top and bottom, in centimetres, the longest runs of consecutive depths, shallow
+ *           to deep. What lies behind the pairs that were written is as lent.
+ *
+ * Pieces: each marked depth is one, and so is each longest run of depths between, above and below them; numbered from
+ * 0, shallow to deep, 193 at most, and one where there is no mark. In each piece that there is, bit 0 (EVERY) of each
+ * item is set; entries behind the last piece are zero.
  *
  * Each is a pointer and a length in elements. Lengths may be larger than the sizes below: what lies behind is never
  * written. What tables and span buffer hold before a call plays no part; they need no clearing.
@@ -22,25 +29,51 @@
  * call until it returns; a block belongs to one call at a time. harmikse_spans only reads the block, so calls of it may
  * share a block while no harmikse_record has it, each with tables and span buffer of its own.
  *
+ * Records: a 2-byte length, a 2-byte kind, the body. Every number is little-endian; signed ones are two's complement.
+ * The length field counts kind and body and not itself, so that a record has length + 2 bytes. Fields are one byte
+ * each but for n, 4 bytes unsigned, the depth, top and bottom of a mark or a hole, 4 bytes signed, and the depth of a
+ * question, 8 bytes signed.
+ *
+ *   kind    name                 body                              length field
+ *   1       RESET                none                              2
+ *   2       LABEL                code, n, A, B                     9   B where the operator on A gives the depth
+ *   3       BOTH                 A, B, C                           5   C where A and B are
+ *   4       LINKRULE             code, n, r, s                     9   link s where the operator on link r gives the depth
+ *   5       VIA                  r, A, B                           5   B on an item with link r to one that has A
+ *   6, 8    PUT, TAKE label      item, label, depth                8
+ *   7, 9    PUT, TAKE link       from, link kind, to, depth        9
+ *   10      QUERY label          item, label, depth                12
+ *   11      QUERY link           from, link kind, to, depth        13
+ *   12      SPANS                item, label                       4
+ *   13, 15  PUT, TAKE label      item, label, top, bottom          12
+ *   14, 16  PUT, TAKE link       from, link kind, to, top, bottom  13
+ *   17      COUNTING             1 (old) or 2 (new)                3
+ *   18      HOLE                 top, bottom                       10
+ *
+ * Items are 0 to 15, link kinds 0 to 7, labels 0 to 63: 0 is EVERY, which holds for every item at every depth, 63 is
+ * NEVER, which may hold nowhere. A rule's left labels are 0 to 62 and its concluded label 1 to 63, marked labels are 1
+ * to 62, and any may be asked about. Codes: 1 WITHIN, with n from 1 to 300,000; with n = 0 2 BETWEEN, 3 ABOVE, 4
+ * BELOW, 5 ANYWHERE. On the depths of a label or a link WITHIN gives those from one to another that lies near enough,
+ * BETWEEN those from the least to the greatest, ABOVE all up to the greatest, BELOW all from the least on, ANYWHERE all;
+ * on none each gives none. Depths of marks and holes are -10,000 to 200,000, larger is deeper; a question may name any.
+ *
  * Marks: a mark has a top and a bottom, from -10,000 to 200,000 cm, and is true at each depth from one to the other.
  * Kinds 6 and 7 put a label and a link with both at one depth, and kinds 8 and 9 take them. Kinds 13 and 14 put a
- * label and a link with top and bottom, 4 bytes signed each, behind the names, and kinds 15 and 16 take them; their
- * lengths are 12, 13, 12 and 13. Two marks are the same if all their fields are, by whichever kind they come: kind 8
- * takes what kind 13 put with both ends equal. At most 96 depths are marked: tops and bottoms, each depth once; what
- * lies between is not marked.
+ * label and a link with top and bottom, and kinds 15 and 16 take them. Two marks are the same if all their fields
+ * are, by whichever kind they come: kind 8 takes what kind 13 put with both ends equal. At most 96 depths are marked:
+ * tops and bottoms, each depth once; what lies between is not marked.
  *
  * Counting: WITHIN n fills from j to k where k - j < n by the old counting, and where k - j <= n by the new one. Kind
- * 17 sets it; its length is 3, and its one byte is 1 for the old counting or 2 for the new one. Send it before the
- * rules: while a rule is held it is refused with 15, whichever counting it names. The empty state has the old counting,
- * and RESET goes back to it.
+ * 17 sets it. Send it before the rules: while a rule is held it is refused with 15, whichever counting it names. The
+ * empty state has the old counting, and RESET goes back to it.
  *
- * Hole: kind 18 gives the hole's top and bottom, 4 bytes signed each, from -10,000 to 200,000 cm; its length is 10.
- * From then on only the depths from one to the other exist, both included: EVERY holds there alone, each operator gives
- * depths of the hole alone, and a question outside is answered no, or contradiction, which goes first. The pieces are
- * those of the hole: the first begins at its top, the last ends at its bottom. The hole's ends are no marked depths. A
- * mark to put that reaches outside is refused with 16. Send kind 18 before the marks: while a mark is held it is
- * refused with 17, whichever hole it gives; rules don't matter. A later hole replaces the one before, and it stays when
- * the last mark is taken. The empty state has no hole, and RESET goes back to that.
+ * Hole: kind 18 gives the hole's top and bottom. From then on only the depths from one to the other exist, both
+ * included: EVERY holds there alone, each operator gives depths of the hole alone, and a question outside is answered
+ * no, or contradiction, which goes first. The pieces are those of the hole: the first begins at its top, the last ends
+ * at its bottom. The hole's ends are no marked depths. A mark to put that reaches outside is refused with 16. Send kind
+ * 18 before the marks: while a mark is held it is refused with 17, whichever hole it gives; rules don't matter. A later
+ * hole replaces the one before, and it stays when the last mark is taken. The empty state has no hole, and RESET goes
+ * back to that.
  *
  * Contradiction: a question is about its item, a link question about both its ends. Items are joined where a chain of
  * links leads from one to the other, held or derived, of any kind, followed either way, at any depths; an item is
@@ -118,8 +151,10 @@ enum harmikse_refusal {
 
 /*
  * Takes one record from the start of the input, where input is all the bytes that are left, and says in *used how many
- * bytes it used: go on with input + *used. 0 bytes are used for the refusals 1 and 2 and for end, all that is left for 3;
- * for every other refusal and every accepted record its length field + 2. Where no byte is left input may be NULL.
+ * bytes it used: go on with input + *used. 0 bytes are used for the refusals 1 and 2 and for end, so a loop stops there:
+ * the same call would give the same again. All that is left is used for 3, also where the rest of a record is still to
+ * come: hand over whole records. For every other refusal and every accepted record it is length field + 2. Where no byte
+ * is left input may be NULL.
  */
 uint32_t harmikse_record(uint8_t *block, size_t block_len,
                          uint64_t *labels, size_t labels_len,

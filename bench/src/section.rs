@@ -1,5 +1,5 @@
-//! Generated full sections of a hole: 128 rules, 256 marks, at most 96 marked depths. One set has points alone, in the
-//! other about half of the marks are stretches.
+//! Generated full sections, without a hole: 128 rules, 256 marks, at most 96 marked depths. One set has points alone, in
+//! the other about half of the marks are stretches.
 
 use dice::Dice;
 use model::held::Held;

@@ -6,6 +6,7 @@ use Rattle.terms.specs.declared.Operator.{Operator}
 use Rattle.terms.specs.declared.Operator.the-variants.{Within, Between, Above, Below, Anywhere}
 use Rattle.terms.specs.declared.Rule.{Rule}
 use Rattle.terms.specs.declared.Rule.the-variants.{Label, Both, Link, Via}
+use Rattle.terms.specs.declared.Atom.{Atom}
 use Rattle.terms.specs.declared.Atom.the-variants.{Has, Linked}
 use Rattle.terms.specs.declared.Mark.{Mark}
 use Rattle.terms.specs.Limits.{ITEMS, EVERY, NEVER, SHALLOWEST, DEEPEST, NO-TOP, NO-BOTTOM}
@@ -80,8 +81,14 @@ has-runs ms rs = on [] ms (Question.Spans 0 1) (Answered (Spans rs))
 abbrev pub has-at : List Mark → ℕ → Reply → Case
 has-at ms i = on [] ms (Question.Holds (Has 0 1) (pos i))
 
+-- whether there is this link at 5 where the last of four was taken, from which each other differs in one name
+abbrev pub untied : Atom → Reply → Case
+untied x =
+    on [] (strike (sameMark (link 0 0 1 (pos 5))) (link 2 0 1 (pos 5) ∷ link 0 1 1 (pos 5) ∷ link 0 0 2 (pos 5) ∷ link 0 0 1 (pos 5) ∷ []))
+    (Question.Holds x (pos 5))
+
 -- 02, Slip 2: a stretch and a point under each operator; inside a stretch and at its ends; stretches that overlap, touch, lie a depth apart,
--- nest; a stretch across 0; a stretch of a link; one of two that share an end, taken
+-- nest; a stretch across 0; a stretch of a link; one of two that share an end, taken; a mark taken behind others that differ in one field
 abbrev pub stretches : List Case
 stretches =
     gives (Within 1) caliper (run (pos 100) (pos 110) ∷ run (pos 120) (pos 120) ∷ [])
@@ -108,6 +115,12 @@ stretches =
     ∷ has-runs (strike (sameMark (stretch 1 10 20)) (stretch 1 10 20 ∷ stretch 1 20 30 ∷ [])) (run (pos 20) (pos 30) ∷ [])
     ∷ has-at (strike (sameMark (stretch 1 10 20)) (stretch 1 10 20 ∷ stretch 1 20 30 ∷ [])) 20 (Answered Yes)
     ∷ has-at (strike (sameMark (stretch 1 10 20)) (stretch 1 10 20 ∷ stretch 1 20 30 ∷ [])) 19 (Answered No)
+    ∷ has-runs (strike (sameMark (stretch 1 10 20)) (stretch 1 5 20 ∷ stretch 1 10 30 ∷ stretch 2 10 20 ∷ label 1 1 (pos 40) ∷ stretch 1 10 20 ∷ []))
+    (run (pos 5) (pos 30) ∷ [])
+    ∷ untied (Linked 2 0 1) (Answered Yes)
+    ∷ untied (Linked 0 1 1) (Answered Yes)
+    ∷ untied (Linked 0 0 2) (Answered Yes)
+    ∷ untied (Linked 0 0 1) (Answered No)
     ∷ []
 
 -- the same held and asked by the new counting
@@ -118,7 +131,7 @@ newly c = record { held = withCounting (c .held) New; question = c .question; re
 abbrev pub tied : ℕ → Reply → Case
 tied i = on (Link (Within 3) 0 1 ∷ []) (link 0 0 1 (pos 10) ∷ link 0 0 1 (pos 13) ∷ []) (Question.Holds (Linked 0 1 1) (pos i))
 
--- label 3 from label 1 at 10 up and from label 2 at 20 down, and label 4 from WITHIN n of it: the set has no ends, and a gap of 10
+-- label 3 from label 1 at 10 up and from label 2 at 20 down, and label 4 from WITHIN n of it: the set has no ends, and 10 is 10 from 20
 abbrev pub gap : ℕ → List Run → Case
 gap n rs =
     on (Label Above 1 3 ∷ Label Below 2 3 ∷ Label (Within n) 3 4 ∷ []) (label 0 1 (pos 10) ∷ label 0 2 (pos 20) ∷ []) (Question.Spans 0 4)
@@ -336,6 +349,34 @@ edges =
     ∷ led (pos 11) (Question.Spans 0 3) (Answered (Spans []))
     ∷ []
 
+-- what item 0 has of label 3 by two rules, the second from label 2, where label 1 is at 5
+abbrev pub twice : Operator → Operator → List Run → Case
+twice o p rs = on (Label o 1 2 ∷ Label p 2 3 ∷ []) (label 0 1 (pos 5) ∷ []) (Question.Spans 0 3) (Answered (Spans rs))
+
+-- link 1 from item 0 to itself by LINKRULE from link 0, which is at 10 and 20, at this depth
+abbrev pub ringed : Operator → ℕ → Reply → Case
+ringed o i = on (Link o 0 1 ∷ []) (link 0 0 0 (pos 10) ∷ link 0 0 0 (pos 20) ∷ []) (Question.Holds (Linked 0 1 0) (pos i))
+
+-- 01, Operators, Rules of derivation and Wrong readings: rules that stand against the order in which they are used; operators on sets without an end;
+-- each on links, of an item to itself; VIA along the second of two links
+abbrev pub readings : List Case
+readings =
+    on (Label (Within 1) 3 4 ∷ Label (Within 1) 2 3 ∷ Label (Within 1) 1 2 ∷ []) (label 0 1 (pos 5) ∷ []) (Question.Holds (Has 0 4) (pos 5)) (Answered Yes)
+    ∷ on (Label Between EVERY 1 ∷ []) [] (Question.Spans 0 1) (Answered (Spans (run NO-TOP NO-BOTTOM ∷ [])))
+    ∷ twice Below Above (run NO-TOP NO-BOTTOM ∷ [])
+    ∷ twice Above Below (run NO-TOP NO-BOTTOM ∷ [])
+    ∷ twice Below Between (run (pos 5) NO-BOTTOM ∷ [])
+    ∷ twice Above Between (run NO-TOP (pos 5) ∷ [])
+    ∷ ringed Above 9 (Answered Yes)
+    ∷ ringed Above 21 (Answered No)
+    ∷ ringed Below 9 (Answered No)
+    ∷ ringed Below 21 (Answered Yes)
+    ∷ ringed Between 15 (Answered Yes)
+    ∷ ringed Between 9 (Answered No)
+    ∷ ringed Between 21 (Answered No)
+    ∷ on (Via 0 2 3 ∷ []) (link 0 0 1 (pos 10) ∷ link 0 0 2 (pos 10) ∷ label 2 2 (pos 10) ∷ []) (Question.Holds (Has 0 3) (pos 10)) (Answered Yes)
+    ∷ []
+
 -- and these behind them; then 02's
 abbrev pub cases : List Case
-cases = edges ++ (nothing ITEMS ++ (stretches ++ (countings ++ (holes ++ pads))))
+cases = edges ++ (nothing ITEMS ++ (readings ++ (stretches ++ (countings ++ (holes ++ pads)))))

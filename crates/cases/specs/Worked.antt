@@ -1,5 +1,5 @@
--- The cases that 01 marks P are decided as it says, and 02's beside them: one theorem, about the definition by interpretations over all
--- integers. Assumes nothing.
+-- The cases that 01 marks P are decided as it says, and 02's beside them: one theorem, about the definition by interpretations of the items
+-- concerned, over the depths that exist. Assumes nothing.
 use mathlib.Core.Path.{_≡_, refl, sym, subst}
 use mathlib.Core.Logic.{⊎-elim}
 use mathlib.Core.Bool.{Bool}
@@ -16,7 +16,7 @@ use Rattle.terms.specs.Limited.{limited, in-range}
 use Rattle.decide.specs.Decide.{answer-decides}
 use Rattle.decide.specs.Answer.{answer}
 use Rattle.decide.specs.Decides.{Reply, Decides}
-use Rattle.cases.specs.Cases.{Case, edges, nothing, stretches, countings, holes, pads, cases}
+use Rattle.cases.specs.Cases.{Case, edges, nothing, readings, stretches, countings, holes, pads, cases}
 
 -- ---- computed, and so decided
 
@@ -53,6 +53,10 @@ nothing-checked : Checked (nothing ITEMS)
 unfolding limits every once some strike depthCount answer model runs joinedB
 nothing-checked = record { kept = tt; same = refl }
 
+readings-checked : Checked readings
+unfolding limits every once some strike depthCount answer model runs joinedB
+readings-checked = record { kept = tt; same = refl }
+
 stretches-checked : Checked stretches
 unfolding limits every once some strike depthCount answer model runs joinedB
 stretches-checked = record { kept = tt; same = refl }
@@ -71,10 +75,11 @@ pads-checked = record { kept = tt; same = refl }
 
 checked : Checked cases
 checked =
-    more-checked edges (nothing ITEMS ++ (stretches ++ (countings ++ (holes ++ pads)))) edges-checked
-    (more-checked (nothing ITEMS) (stretches ++ (countings ++ (holes ++ pads))) nothing-checked
+    more-checked edges (nothing ITEMS ++ (readings ++ (stretches ++ (countings ++ (holes ++ pads))))) edges-checked
+    (more-checked (nothing ITEMS) (readings ++ (stretches ++ (countings ++ (holes ++ pads)))) nothing-checked
+    (more-checked readings (stretches ++ (countings ++ (holes ++ pads))) readings-checked
     (more-checked stretches (countings ++ (holes ++ pads)) stretches-checked
-    (more-checked countings (holes ++ pads) countings-checked (more-checked holes pads holes-checked pads-checked))))
+    (more-checked countings (holes ++ pads) countings-checked (more-checked holes pads holes-checked pads-checked)))))
 
 each : (cs : List Case) → Checked cs → (c : Case) → c ∈ cs → Decides (c .held) (c .question) (c .reply)
 unfolding every

@@ -1,14 +1,15 @@
 -- Lists of tests whose numbers ascend by rank: the number given is the lowest that applies. Assumes nothing.
 use mathlib.Core.Path.{_≡_, refl, sym, ap, _∙_, subst}
 use mathlib.Core.Logic.{_⊎_, inl, inr}
-use mathlib.Core.Bool.{Bool, true, false, cond}
+use mathlib.Core.Bool.{Bool, true, false, cond, _&&_}
 use mathlib.Core.List.{List, [], _∷_, _++_, List·Memᴰ·head, List·Memᴰ·tail, List·Memᴰ·cases-cons, List·Memᴰ·not-nil}
 use Prim.Native.Nat.{ℕ, _≤_}
 use native.Mathlib.Omega.{arith}
-use lib.Dec.{T}
+use lib.Dec.{T, leb, leb→le}
 use Rattle.terms.specs.declared.Tested.{Tested}
 use Rattle.terms.specs.declared.Tested.the-variants as Tested
 use Rattle.refusals.specs.Refusals.{rank, Test, tested}
+use Rattle.terms.specs.Tests.{and-both}
 use Rattle.terms.specs.Otherwise.{orElse}
 use Rattle.terms.specs.Held.{_∈_}
 use Rattle.claims.specs.Table.{Ascends}
@@ -61,6 +62,18 @@ tested-some (u ∷ ts) t m p = go (u .applies) refl (λ n. tested-some ts t n p)
     go false e f (inr n) = f n
 
 -- ---- ranks that ascend
+
+-- rows ascend by a test of their numbers, whatever applies
+abbrev pub ascending : ℕ → ℕ → List Test → Bool
+ascending low high [] = true
+ascending low high (t ∷ ts) = leb low (rank (t .number)) && (leb (rank (t .number)) high && ascending (rank (t .number)) high ts)
+
+pub ascends : (low high : ℕ) (ts : List Test) → T (ascending low high ts) → Ascends low high ts
+ascends low high [] u = tt
+ascends low high (t ∷ ts) u =
+    let v = and-both (leb low (rank (t .number))) (leb (rank (t .number)) high && ascending (rank (t .number)) high ts) u in
+    let w = and-both (leb (rank (t .number)) high) (ascending (rank (t .number)) high ts) (v .1) in
+    (leb→le low (rank (t .number)) (v .0), leb→le (rank (t .number)) high (w .0), ascends (rank (t .number)) high ts (w .1))
 
 pub wider : (low high low′ high′ : ℕ) (ts : List Test) → low′ ≤ low → high ≤ high′ → Ascends low high ts → Ascends low′ high′ ts
 wider low high low′ high′ [] l h a = tt

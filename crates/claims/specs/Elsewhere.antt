@@ -7,12 +7,15 @@ use Prim.Native.Nat.{ℕ, _+_, _*_}
 use lib.Dec.{T, eqb}
 use lib.ListN.{length, take, drop}
 use lib.Seq.{take-at}
+use Rattle.terms.specs.declared.Answer.{Answer}
+use Rattle.terms.specs.declared.Answer.the-variants as Answer
 use Rattle.terms.specs.declared.Mark.{Mark}
 use Rattle.terms.specs.declared.Question.{Question}
 use Rattle.terms.specs.declared.Question.the-variants as Question
 use Rattle.terms.specs.declared.Tested.the-variants as Tested
 use Rattle.terms.specs.Held.{Held, withMarks, isQuestion}
 use Rattle.terms.specs.Limited.{limited, in-range}
+use Rattle.terms.specs.Pairs.{pairsOf}
 use Rattle.terms.specs.Spans.{flat}
 use Rattle.spans.specs.Longest.{flat-length}
 use Rattle.refusals.specs.Refusals.{test, tested}
@@ -43,6 +46,19 @@ replied-same h k m n u v (Answered (Spans rs)) = record { answer = refl; spans =
     written l f =
         let e = flat-length rs ∙ ap (λ x. 2 * x) f in
         take-at (flat rs) (drop (length (flat rs)) (m .spans)) (2 * l) e ∙ sym (take-at (flat rs) (drop (length (flat rs)) (n .spans)) (2 * l) e)
+
+-- two that tell the same write the same pairs
+pub tells-pairs : (r k : After) → Tells-same r k → pairsOf (r .answer) (r .buffers .spans) ≡ pairsOf (k .answer) (k .buffers .spans)
+tells-pairs r k t = go (r .answer) refl ∙ ap (λ (a : Answer). pairsOf a (k .buffers .spans)) (t .answer)
+  where
+    go : (a : Answer) → r .answer ≡ a → pairsOf a (r .buffers .spans) ≡ pairsOf a (k .buffers .spans)
+    go Answer.Done e = refl
+    go Answer.Yes e = refl
+    go Answer.No e = refl
+    go (Answer.Contradiction item) e = refl
+    go (Answer.Spans n) e = t .spans n e
+    go Answer.End e = refl
+    go (Answer.Refused n) e = refl
 
 -- the rows of a record that asks look at no mark
 asking-rows : (h : Held) (ms : List Mark) (s : List ℕ) (q : Question) → said s ≡ Asks q → inputRows (withMarks h ms) s ≡ inputRows h s

@@ -11,8 +11,10 @@ use Rattle.terms.specs.declared.Atom.{Atom}
 use Rattle.terms.specs.declared.Atom.the-variants.{Has}
 use Rattle.terms.specs.declared.Question.{Question}
 use Rattle.terms.specs.declared.Question.the-variants as Question
+use Rattle.terms.specs.declared.Hole.{Hole}
 use Rattle.terms.specs.Limits.{INTERVALS}
-use Rattle.terms.specs.Held.{Held, holeIn}
+use Rattle.terms.specs.Holes.{InHole}
+use Rattle.terms.specs.Held.{_∈_, Held, holeIn}
 use Rattle.terms.specs.Lists.{limits}
 use Rattle.logic.specs.Depths.{Derived}
 use Rattle.terms.specs.Spans.{Run, Longest, flat}
@@ -48,6 +50,10 @@ pub record Runs-written (S : ℤ → Type 0) (n : ℕ) (spans : List ℤ) : Type
   pub longest : Longest S runs
   pub number : length runs ≡ n
   pub written : take (2 * n) spans ≡ flat runs
+
+-- 02, Slip 5: each number of the pairs in it lies in the hole
+abbrev pub Ends-inside : Hole → ℕ → List ℤ → Type 0
+Ends-inside H n spans = (i : ℤ) → i ∈ take (2 * n) spans → InHole H i
 
 -- where it is clear that there is no contradiction: yes exactly if it is so, no exactly if it is not; spans cover exactly the depths where it is so
 abbrev pub Told-by : Type 0 → (Atom → ℤ → Type 0) → (Atom → ℤ → Type 0) → Question → After → Type 0

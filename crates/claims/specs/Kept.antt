@@ -11,12 +11,13 @@ use lib.ListN.{length, length-append}
 use Rattle.terms.specs.declared.Counting.{Counting}
 use Rattle.terms.specs.declared.Rule.{Rule}
 use Rattle.terms.specs.declared.Mark.{Mark}
+use Rattle.terms.specs.declared.Settings.{Settings}
 use Rattle.terms.specs.Limits.{RULES, MARKS, DEPTHS}
 use Rattle.terms.specs.declared.Tested.the-variants as Tested
 use Rattle.refusals.specs.Refusals.{Test, test, tested}
 use Rattle.terms.specs.declared.Hole.the-variants.{Part}
 use Rattle.terms.specs.Holes.{isHole, liesIn}
-use Rattle.terms.specs.Held.{Held, holeIn, endsOf, withCounting, withHole, isRule, isMark, emptyHeld}
+use Rattle.terms.specs.Held.{Held, holeIn, endsOf, withSettings, withCounting, withHole, isSettings, isRule, isMark, emptyHeld}
 use Rattle.terms.specs.Same.{sameRule, sameMark}
 use Rattle.terms.specs.SameLaws.{same-rule, rule-same, same-mark, mark-same}
 use Rattle.terms.specs.Lists.{some, every, strike, once, depthCount}
@@ -48,7 +49,7 @@ every-snoc f xs x t u =
     in-every f (xs ++ (x ∷ [])) (λ y m.
     ⊎-elim (λ n. every-in f xs t y n) (λ n. subst (λ v. T (f v)) (sym (List·Memᴰ·eq-of-singleton n)) u) (List·Memᴰ·append-cases xs m))
 
-twice : (b : Bool) → T (not (not b)) → T b
+pub twice : (b : Bool) → T (not (not b)) → T b
 twice true t = tt
 twice false t = t
 
@@ -104,23 +105,9 @@ put-limited h m w p e =
       inside = every-snoc (liesIn (holeIn h)) (h .marks) m (w .inside) (twice (liesIn (holeIn h) m) (o .0));
     }
 
-pub counted-limited : (h : Held) (c : Counting) → Limited h → Limited (withCounting h c)
-counted-limited h c w = record {
-  few-rules = w .few-rules;
-  few-marks = w .few-marks;
-  few-depths = w .few-depths;
-  rules = w .rules;
-  marks = w .marks;
-  once-rules = w .once-rules;
-  once-marks = w .once-marks;
-  settings = w .settings;
-  inside = w .inside;
-}
-
--- a hole, where no mark is held
-pub confined-limited : (h : Held) (t b : ℤ) → Limited h → T (isHole (Part t b)) → tested (confineTests h) ≡ Tested.Passed → Limited (withHole h (Part t b))
-unfolding every
-confined-limited h t b w p e = record {
+-- other settings, that may be set, and in whose hole the marks lie
+set-limited : (h : Held) (s : Settings) → Limited h → T (isSettings s) → T (every (liesIn (s .hole)) (h .marks)) → Limited (withSettings h s)
+set-limited h s w p i = record {
   few-rules = w .few-rules;
   few-marks = w .few-marks;
   few-depths = w .few-depths;
@@ -129,8 +116,16 @@ confined-limited h t b w p e = record {
   once-rules = w .once-rules;
   once-marks = w .once-marks;
   settings = p;
-  inside = none (h .marks) (passed (ltb 0 (length (h .marks))) 17 [] e .0);
+  inside = i;
 }
+
+pub counted-limited : (h : Held) (c : Counting) → Limited h → Limited (withCounting h c)
+counted-limited h c w = set-limited h (withCounting h c .settings) w (w .settings) (w .inside)
+
+-- a hole, where no mark is held
+pub confined-limited : (h : Held) (t b : ℤ) → Limited h → T (isHole (Part t b)) → tested (confineTests h) ≡ Tested.Passed → Limited (withHole h (Part t b))
+unfolding every
+confined-limited h t b w p e = set-limited h (withHole h (Part t b) .settings) w p (none (h .marks) (passed (ltb 0 (length (h .marks))) 17 [] e .0))
   where
     none : (ms : List Mark) → T (not (ltb 0 (length ms))) → T (every (liesIn (Part t b)) ms)
     none [] u = tt

@@ -18,8 +18,10 @@ pub mod Writing
 pub mod Whole
 pub mod Lent
 pub mod Exactly
+pub mod Determined
 pub mod Outside
 pub mod SpanRecord
 pub mod Elsewhere
 pub mod Values
 pub mod OneCall
+pub mod Claimed

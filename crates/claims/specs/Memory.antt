@@ -10,12 +10,14 @@ use Rattle.terms.specs.Limits.{DEPTHS, LABEL-ENTRIES, LINK-ENTRIES}
 use Rattle.block.specs.Layout.{SIZE}
 use Rattle.commands.specs.Buffers.{Buffers}
 
--- 01, State and tables: only done changes the block, and done leaves the tables; only spans write the span buffer; end changes nothing
+-- 01, State and tables: only done changes the block, and done leaves the tables; only spans write the span buffer; end changes nothing, nor does a
+-- refusal
 pub record Keeps (a : Answer) (m after : Buffers) : Type 0 where
   pub block : (a ≡ Answer.Done → ⊥) → after .block ≡ m .block
   pub tables : a ≡ Answer.Done → (after .labels ≡ m .labels) × (after .links ≡ m .links)
   pub spans : ((n : ℕ) → a ≡ Answer.Spans n → ⊥) → after .spans ≡ m .spans
   pub ended : a ≡ Answer.End → after ≡ m
+  pub refused : (n : ℕ) → a ≡ Answer.Refused n → after ≡ m
 
 -- what was written lies in the first n, and the length is the old one
 pub record Written-in {A : Type 0} (n : ℕ) (old new : List A) : Type 0 where

@@ -1,15 +1,13 @@
 -- 02, Slip 5, of the calls that ask: outside the hole no or contradiction, and spans with ends in the hole alone. Assumes nothing.
-use mathlib.Core.Path.{_≡_, ap, _∙_}
+use mathlib.Core.Path.{_≡_, refl, sym, ap, _∙_, subst}
 use mathlib.Core.Logic.{_⊎_, ⊎-elim, inl, inr}
-use mathlib.Core.List.{List}
-use Prim.Native.Nat.{ℕ, _+_, _*_}
+use mathlib.Core.List.{List, [], _∷_, List·Memᴰ·head, List·Memᴰ·tail, List·Memᴰ·cases-cons, List·Memᴰ·not-nil}
+use Prim.Native.Nat.{ℕ, _+_}
 use lib.IntN.{ℤ}
-use lib.ListN.{length, take}
 use Rattle.terms.specs.declared.Answer.the-variants as Answer
 use Rattle.terms.specs.declared.Atom.{Atom}
 use Rattle.terms.specs.declared.Atom.the-variants.{Has}
 use Rattle.terms.specs.declared.Question.the-variants as Question
-use Rattle.terms.specs.declared.Hole.{Hole}
 use Rattle.terms.specs.Holes.{InHole}
 use Rattle.terms.specs.Held.{_∈_, Held, holeIn}
 use Rattle.logic.specs.Inside.{derived-inside}
@@ -24,7 +22,7 @@ use Rattle.decide.specs.Verdicts.{answerOf}
 use Rattle.commands.specs.Buffers.{Buffers, After}
 use Rattle.commands.specs.Call.{call}
 use Rattle.commands.specs.Code.{replied-is}
-use Rattle.claims.specs.Exact.{Asking, Contradicts}
+use Rattle.claims.specs.Exact.{Asking, Ends-inside, Contradicts}
 use Rattle.claims.specs.Exactly.{asked-call, call-exact}
 
 -- a question at a depth outside the hole is answered no, or contradiction
@@ -39,23 +37,22 @@ outside-answered m s h x i a o =
     (λ w. inr (w .0, said ∙ ap answerOf (w .1)))
     (outside-no h (in-range h (limited h (a .block .within))) x i o)
 
--- the pairs that are written, each with both ends in the hole
-pub record Ends-inside (H : Hole) (n : ℕ) (spans : List ℤ) : Type 0 where
-  pub runs : List Run
-  pub number : length runs ≡ n
-  pub written : take (2 * n) spans ≡ flat runs
-  pub inside : (r : Run) → r ∈ runs → InHole H (r .top) × InHole H (r .bottom)
+-- a number of the pairs is an end of a run
+flat-in : (rs : List Run) (i : ℤ) → i ∈ flat rs → (r : Run) × (r ∈ rs) × ((i ≡ r .top) ⊎ (i ≡ r .bottom))
+unfolding flat
+flat-in [] i m = absurd (List·Memᴰ·not-nil m)
+flat-in (r ∷ rs) i m =
+    ⊎-elim (λ e. (r, List·Memᴰ·head refl, inl e))
+    (λ n.
+    ⊎-elim (λ e. (r, List·Memᴰ·head refl, inr e)) (λ o. let w = flat-in rs i o in (w .0, List·Memᴰ·tail (w .1), w .2)) (List·Memᴰ·cases-cons n))
+    (List·Memᴰ·cases-cons m)
 
+-- both ends of each pair that is written lie in the hole
 pub spans-answered :
     (m : Buffers) (s : List ℕ) (h : Held) (a A n : ℕ) → Asking m s h (Question.Spans a A) → call m s .answer ≡ Answer.Spans n →
     Ends-inside (holeIn h) n (call m s .buffers .spans)
-spans-answered m s h a A n k e =
+spans-answered m s h a A n k e i o =
     let w = call-exact m s h (Question.Spans a A) k .by-model .1 n e in
-    record {
-      runs = w .runs;
-      number = w .number;
-      written = w .written;
-      inside = λ r i.
-          let v = run-ends (Derived h (Has a A)) (w .runs) (w .longest) r i in
-          (derived-inside h (v .0), derived-inside h (v .1));
-    }
+    let (r, u, d) = flat-in (w .runs) i (subst (λ l. i ∈ l) (w .written) o) in
+    let v = run-ends (Derived h (Has a A)) (w .runs) (w .longest) r u in
+    ⊎-elim (λ c. subst (InHole (holeIn h)) (sym c) (derived-inside h (v .0))) (λ c. subst (InHole (holeIn h)) (sym c) (derived-inside h (v .1))) d

@@ -1,5 +1,5 @@
--- A block is good exactly if a run of records from zeros leads to it, under `Laws` and with records for rules and marks,
--- which Whole gives.
+-- A block is good exactly if a run of records from zeros leads to it, under `Laws` and with records for rules, marks,
+-- countings and holes, which Whole gives.
 use mathlib.Core.Path.{_≡_, refl, sym, ap, _∙_, subst}
 use mathlib.Core.Logic.{⊎-elim, _↔_}
 use mathlib.Core.Bool.{Bool, true, false, not, _||_}

@@ -81,7 +81,7 @@ pub data Book (h : Held) (f : Fed) : Result → Held → Type 0 where
   -- questions change nothing; what is held and the interpretations that satisfy it decide them
   answered : {q : Question} (r : Reply) → Accepted h f (Asks q) → Decides h q r → Book h f (shown r (recordUsed f)) h
 
--- 01, The book: both lists are empty at first; so much it can hold
+-- 01, The book: what it can come to hold; both lists are empty at first
 pub data Entered : Held → Type 0 where
   at-first : Entered emptyHeld
   after-call : {h k : Held} (f : Fed) (r : Result) → Entered h → Book h f r k → Entered k

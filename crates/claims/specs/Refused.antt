@@ -1,4 +1,4 @@
--- Demand 1, the numbers: the call by its rows, refused with the lowest number that applies or accepted. Assumes nothing.
+-- Demand 1, the numbers: the call by its rows, refused with the lowest number that applies, by rank, or accepted. Assumes nothing.
 use mathlib.Core.Path.{_≡_, refl, sym, ap, _∙_, subst}
 use mathlib.Core.Logic.{_↔_}
 use mathlib.Core.Bool.{Bool, true, false, not, cond, true≢false}
@@ -13,8 +13,8 @@ use Rattle.terms.specs.declared.Answer.the-variants as Answer
 use Rattle.terms.specs.declared.Question.{Question}
 use Rattle.terms.specs.declared.Tested.{Tested}
 use Rattle.terms.specs.declared.Tested.the-variants as Tested
-use Rattle.refusals.specs.Refusals.{rank, Test, test, tested}
-use Rattle.refusals.specs.Ranks.{rank-number, rank-lower}
+use Rattle.refusals.specs.Refusals.{order, rank, Test, test, tested}
+use Rattle.refusals.specs.Ranks.{rank-ordered, rank-number, rank-lower}
 use Rattle.terms.specs.Otherwise.{onTested, orElse}
 use Rattle.terms.specs.Held.{_∈_, Held}
 use Rattle.block.specs.Block.{readHeld, good}
@@ -36,6 +36,7 @@ use Rattle.claims.specs.Ascending.{
   tested-applies,
   tested-some,
   wider,
+  ascends,
   tested-in,
   tested-lowest,
   in-range,
@@ -47,69 +48,25 @@ use Rattle.claims.specs.Kinds.{recordTests, record-rows, inputTests, inp
 
 record-ascends : (h : Held) (k : ℕ) (b : List ℕ) → Ascends (rank 6) (rank 12) (recordRows h k b)
 unfolding rank
-record-ascends h k b = (
-  omega arith,
-  omega arith,
-  (
-    omega arith,
-    omega arith,
-    (
-      omega arith,
-      omega arith,
-      (
-        omega arith,
-        omega arith,
-        (
-          omega arith,
-          omega arith,
-          (
-            omega arith,
-            omega arith,
-            (
-              omega arith,
-              omega arith,
-              (
-                omega arith,
-                omega arith,
-                (omega arith, omega arith, (omega arith, omega arith, (omega arith, omega arith, tt))),
-              ),
-            ),
-          ),
-        ),
-      ),
-    ),
-  ),
-)
+record-ascends h k b = ascends (rank 6) (rank 12) (recordRows h k b) tt
 
 input-ascends : (h : Held) (s : List ℕ) → Ascends (rank 3) (rank 12) (inputRows h s)
 unfolding rank
 input-ascends h s = go (eqb (length s) 0)
   where
-    k : ℕ
-    k = kindField s
+    left : List Test
+    left = test (brokenFrame s) 3 ∷ test (unknownKind s) 4 ∷ test (wrongLength s) 5 ∷ recordRows h (kindField s) (bodyOf s)
 
-    b : List ℕ
-    b = bodyOf s
-
-    records : Ascends (rank 5) (rank 12) (recordRows h k b)
-    records = wider (rank 6) (rank 12) (rank 5) (rank 12) (recordRows h k b) (omega arith) (omega arith) (record-ascends h k b)
-
-    go : (v : Bool) → Ascends (rank 3) (rank 12) (cond v [] (test (brokenFrame s) 3 ∷ test (unknownKind s) 4 ∷ test (wrongLength s) 5 ∷ recordRows h k b))
+    go : (v : Bool) → Ascends (rank 3) (rank 12) (cond v [] left)
     go true = tt
-    go false = (
-      omega arith,
-      omega arith,
-      (omega arith, omega arith, (omega arith, omega arith, records)),
-    )
+    go false = ascends (rank 3) (rank 12) left tt
 
 -- from the first to the last, whatever applies
 pub table-ascends : (a b : Bool) (h : Held) (s : List ℕ) → Ascends (rank 1) (rank 12) (table a b h s)
 unfolding rank
 table-ascends a b h s =
+    let inputs = wider (rank 3) (rank 12) (rank 2) (rank 12) (inputRows h s) (omega arith) (omega arith) (input-ascends h s) in
     (omega arith, omega arith, (omega arith, omega arith, inputs))
-  where
-    inputs : Ascends (rank 2) (rank 12) (inputRows h s)
-    inputs = wider (rank 3) (rank 12) (rank 2) (rank 12) (inputRows h s) (omega arith) (omega arith) (input-ascends h s)
 
 -- ---- what is left of the input, by its rows
 
@@ -205,7 +162,7 @@ module _ (h : Held) (s : List ℕ) where
 abbrev pub by-rows : Buffers → List ℕ → Tested → After
 by-rows m s t = let h = readHeld (m .block) in onTested (effect h m (obeyed h s)) (λ n. after (Answer.Refused n) (usedFor n s) m) t
 
--- the call is refused with the lowest number that applies, uses the bytes that 01 says and leaves everything lent; or it is accepted
+-- the call is refused with the lowest number that applies, by rank, uses the bytes that 01 says and leaves everything lent; or it is accepted
 pub call-by-rows : (m : Buffers) (s : List ℕ) → call m s ≡ by-rows m s (tested (rows m s))
 unfolding call rank
 call-by-rows m s = go (short m) (not (good (m .block)))
@@ -285,9 +242,13 @@ refused-exactly m s n = (
 pub rows-ascend : (m : Buffers) (s : List ℕ) → Ascends (rank 1) (rank 12) (rows m s)
 rows-ascend m s = table-ascends (short m) (not (good (m .block))) (readHeld (m .block)) s
 
--- a number that is given is in the order
+-- what is given has a rank up to the last one's
 pub refused-ranked : (m : Buffers) (s : List ℕ) (n : ℕ) → call m s .answer ≡ Answer.Refused n → rank n ≤ rank 12
 refused-ranked m s n e = tested-in (rank 1) (rank 12) (rows m s) (rows-ascend m s) n (refused-exactly m s n .0 e) .1
+
+-- so it is in the order
+pub refused-ordered : (m : Buffers) (s : List ℕ) (n : ℕ) → call m s .answer ≡ Answer.Refused n → n ∈ order
+refused-ordered m s n e = rank-ordered n (refused-ranked m s n e)
 
 -- a refusal's number is that of a row that applies, and by rank the lowest of those
 pub refused-lowest :

@@ -34,6 +34,8 @@ use Rattle.claims.specs.Ascending.{clash, same-number}
 use Rattle.claims.specs.Refused.{reply-accepts}
 use Rattle.claims.specs.Table.{saidBy}
 use Rattle.claims.specs.Beside.{spansRecord, unused, spanRows}
+use Rattle.claims.specs.Memory.{Keeps}
+use Rattle.claims.specs.Total.{call-keeps}
 use Rattle.claims.specs.Exact.{Holding, Asking, Exact}
 use Rattle.claims.specs.Exactly.{call-exact}
 
@@ -78,6 +80,10 @@ span-as-record m a A =
 
     asked : Decoded
     asked = decodedAs (tested (questionTests (h .settings) q)) (Command.Ask q)
+
+-- so it keeps of lent memory what the record keeps
+pub span-keeps : (m : Buffers) (a A : ℕ) → Keeps (spanCall m a A .answer) m (spanCall m a A .buffers)
+span-keeps m a A = subst (λ (r : After). Keeps (r .answer) m (r .buffers)) (sym (span-as-record m a A)) (call-keeps m (spansRecord a A))
 
 -- ---- refusals 1, 2 and 6 and no other
 

@@ -21,43 +21,25 @@ use Rattle.commands.specs.Buffers.{Buffers, after}
 
 -- ---- what an answer leaves
 
-replied-refused : (h : Held) (m : Buffers) (u n : ℕ) (r : Reply) → replied h m u r .answer ≡ Answer.Refused n → replied h m u r .buffers ≡ m
-replied-refused h m u n (Contradiction a) e = differ (cc)
-replied-refused h m u n (Answered Yes) e = differ (cc)
-replied-refused h m u n (Answered No) e = differ (cc)
-replied-refused h m u n (Answered (Spans rs)) e = differ (cc)
-
-effect-refused : (h : Held) (m : Buffers) (o : Outcome) (n : ℕ) → effect h m o .answer ≡ Answer.Refused n → effect h m o .buffers ≡ m
-effect-refused h m (Refused k u) n e = refl
-effect-refused h m Ended n e = refl
-effect-refused h m (Changed k u) n e = differ (cc)
-effect-refused h m (Asked q u) n e = replied-refused h m u n (answer h q) e
-
--- 01, Where a record is turned away: refusals leave all lent memory unchanged
-pub refused-keeps : (m : Buffers) (s : List ℕ) (n : ℕ) → call m s .answer ≡ Answer.Refused n → call m s .buffers ≡ m
-unfolding call
-refused-keeps m s n = go (tested (lentTests m))
-  where
-    h : Held
-    h = readHeld (m .block)
-
-    go :
-        (t : Tested) → let r = onTested (effect h m (judged h (parse (h .settings) s))) (λ n. after (Answer.Refused n) 0 m) t in
-        r .answer ≡ Answer.Refused n → r .buffers ≡ m
-    go Tested.Passed e = effect-refused h m (judged h (parse (h .settings) s)) n e
-    go (Tested.Refused k) e = refl
+-- memory as lent is kept by every answer
+same-keeps : (a : Answer) (m : Buffers) → Keeps a m m
+same-keeps a m = record { block = λ f. refl; tables = λ e. (refl, refl); spans = λ f. refl; ended = λ e. refl; refused = λ n e. refl }
 
 reply-keeps : (h : Held) (m : Buffers) (u : ℕ) (r : Reply) → Keeps (replied h m u r .answer) m (replied h m u r .buffers)
-reply-keeps h m u (Contradiction a) = record { block = λ f. refl; tables = λ e. differ (cc); spans = λ f. refl; ended = λ e. differ (cc) }
-reply-keeps h m u (Answered Yes) = record { block = λ f. refl; tables = λ e. differ (cc); spans = λ f. refl; ended = λ e. differ (cc) }
-reply-keeps h m u (Answered No) = record { block = λ f. refl; tables = λ e. differ (cc); spans = λ f. refl; ended = λ e. differ (cc) }
+reply-keeps h m u (Contradiction a) =
+    record { block = λ f. refl; tables = λ e. differ (cc); spans = λ f. refl; ended = λ e. differ (cc); refused = λ n e. differ (cc) }
+reply-keeps h m u (Answered Yes) =
+    record { block = λ f. refl; tables = λ e. differ (cc); spans = λ f. refl; ended = λ e. differ (cc); refused = λ n e. differ (cc) }
+reply-keeps h m u (Answered No) =
+    record { block = λ f. refl; tables = λ e. differ (cc); spans = λ f. refl; ended = λ e. differ (cc); refused = λ n e. differ (cc) }
 reply-keeps h m u (Answered (Spans rs)) =
-    record { block = λ f. refl; tables = λ e. differ (cc); spans = λ f. absurd (f (length rs) refl); ended = λ e. differ (cc) }
+    record { block = λ f. refl; tables = λ e. differ (cc); spans = λ f. absurd (f (length rs) refl); ended = λ e. differ (cc); refused = λ n e. differ (cc) }
 
 effect-keeps : (h : Held) (m : Buffers) (o : Outcome) → Keeps (effect h m o .answer) m (effect h m o .buffers)
-effect-keeps h m (Refused n u) = record { block = λ f. refl; tables = λ e. differ (cc); spans = λ f. refl; ended = λ e. refl }
-effect-keeps h m Ended = record { block = λ f. refl; tables = λ e. differ (cc); spans = λ f. refl; ended = λ e. refl }
-effect-keeps h m (Changed k u) = record { block = λ f. absurd (f refl); tables = λ e. (refl, refl); spans = λ f. refl; ended = λ e. differ (cc) }
+effect-keeps h m (Refused n u) = same-keeps (Answer.Refused n) m
+effect-keeps h m Ended = same-keeps Answer.End m
+effect-keeps h m (Changed k u) =
+    record { block = λ f. absurd (f refl); tables = λ e. (refl, refl); spans = λ f. refl; ended = λ e. differ (cc); refused = λ n e. differ (cc) }
 effect-keeps h m (Asked q u) = reply-keeps h m u (answer h q)
 
 -- 01, State and tables: what each answer leaves
@@ -72,4 +54,8 @@ call-keeps m s = go (tested (lentTests m))
         (t : Tested) → let r = onTested (effect h m (judged h (parse (h .settings) s))) (λ n. after (Answer.Refused n) 0 m) t in
         Keeps (r .answer) m (r .buffers)
     go Tested.Passed = effect-keeps h m (judged h (parse (h .settings) s))
-    go (Tested.Refused k) = record { block = λ f. refl; tables = λ e. differ (cc); spans = λ f. refl; ended = λ e. refl }
+    go (Tested.Refused k) = same-keeps (Answer.Refused k) m
+
+-- 01, Where a record is turned away: refusals leave all lent memory unchanged
+pub refused-keeps : (m : Buffers) (s : List ℕ) (n : ℕ) → call m s .answer ≡ Answer.Refused n → call m s .buffers ≡ m
+refused-keeps m s n e = call-keeps m s .refused n e

@@ -2,11 +2,12 @@
 use mathlib.Core.Path.{_≡_, refl, sym, ap, _∙_, subst}
 use mathlib.Core.Logic.{_↔_}
 use mathlib.Core.Bool.{Bool, true, false, cond, true≢false}
-use mathlib.Core.List.{List, _++_}
+use mathlib.Core.List.{List, [], _++_}
 use Prim.Native.Nat.{ℕ, _≤_}
 use native.Mathlib.Omega.{arith}
 use lib.Dec.{T}
-use lib.ListN.{length, take}
+use lib.ListN.{length, take, length-append}
+use lib.Seq.{take-at}
 use Rattle.terms.specs.declared.Answer.the-variants as Answer
 use Rattle.codec.specs.Bytes.{bytes}
 use Rattle.terms.specs.Tests.{true-of, of-true}
@@ -24,13 +25,13 @@ use Rattle.commands.specs.Call.{Outcome, Refused, listTests, obey, judged, call
 use Rattle.commands.specs.Buffers.{Buffers, isShort, short}
 use Rattle.claims.specs.Refused.{two-by-block, end-by-block}
 use Rattle.commands.specs.Code.{enough}
-use Rattle.claims.specs.Kept.{Limited, in-range, empty-limited, added-limited, put-limited, counted-limited, confined-limited, taken-limited}
+use Rattle.claims.specs.Kept.{Limited, of-limited, in-range, empty-limited, added-limited, put-limited, counted-limited, confined-limited, taken-limited}
 use Rattle.claims.specs.Reference.{Fed, Result, Book, Entered, at-first, after-call}
 use Rattle.claims.specs.Exact.{Holding}
-use Rattle.claims.specs.Lives.{Event, Agrees, Run-to}
+use Rattle.claims.specs.Lives.{fed, Event, Agrees, finished, recorded, beside, Run-to, from-zeros, by-record}
 use Rattle.claims.specs.Told.{outcome, Told}
 use Rattle.claims.specs.Told as Told
-use Rattle.claims.specs.Life.{Stays-limited, Laws, judged-limited, lived}
+use Rattle.claims.specs.Life.{Stays-limited, Laws, judged-limited, call-then, lived}
 use Rattle.claims.specs.Booked.{to-book, told-some, book-one, some-result}
 use Rattle.claims.specs.Reach.{good-exactly}
 use Rattle.claims.specs.Writing.{written}
@@ -75,6 +76,12 @@ good-holding b t = let w = decode-holds b (readHeld b) (decoded b t) in record {
 -- demand 3: for every list of calls from the all-zero block on, at every place, the record call and the reference machine agree
 pub whole-life : (es : List Event) → Agrees emptyHeld (zeros SIZE) es
 whole-life es = lived laws es
+
+-- at every place of it the memory is the encoding of what the book holds
+pub memory-holds : {h : Held} {mem : List ℕ} {es : List Event} → Agrees h mem es → mem ≡ encode h
+memory-holds (finished e) = e
+memory-holds (recorded e b a) = e
+memory-holds (beside e a) = e
 
 -- a block that is long enough is good exactly if a run of records from all zeros leads to it
 pub reached-exactly : (b : List ℕ) → SIZE ≤ length b → T (good b) ↔ Run-to (take SIZE b)
@@ -137,3 +144,24 @@ entered-limited (after-call f r e b) = book-limited f (entered-limited e) b
 -- whatever the book holds, it has a result and a next state for every feeding; `book-one` says that it has no other
 pub book-some : {h : Held} → Entered h → (f : Fed) → (r : Result) × (k : Held) × Book h f r k
 book-some {h} e f = some-result h f (in-range h (entered-limited e))
+
+-- ---- good blocks by the book
+
+-- a run of records leads to what the book then holds
+run-entered : {mem : List ℕ} → Run-to mem → (h : Held) × Entered h × (mem ≡ encode h)
+run-entered from-zeros = (emptyHeld, at-first, sym encode-empty)
+run-entered (by-record {mem = mem} c s b d r) =
+    let w = run-entered r in
+    let t = call-then laws (w .0) (entered-limited (w .1)) mem (w .2) c s in
+    (t .holds-then, after-call (fed c s) _ (w .1) (to-book (w .0) (fed c s) (t .told)), t .memory)
+
+-- a run of records leads to a memory exactly if it encodes what the book can come to hold
+pub entered-exactly : (mem : List ℕ) → Run-to mem ↔ ((h : Held) × Entered h × (mem ≡ encode h))
+entered-exactly mem = (run-entered, back)
+  where
+    back : (h : Held) × Entered h × (mem ≡ encode h) → Run-to mem
+    back (h, e, f) =
+        let w = entered-limited e in
+        let size = length-encode h (w .few-rules) (w .few-marks) in
+        let whole : take SIZE (encode h ++ []) ≡ mem = take-at (encode h) [] SIZE size ∙ sym f in
+        subst Run-to whole (reached-exactly (encode h ++ []) (simp length-append (omega (arith, size))) .0 (laws .good-encode h [] (of-limited h w)))

@@ -1,4 +1,4 @@
--- What marks and rules decide: by the interpretations that satisfy them, and by the least model.
+-- What marks and rules decide, by the interpretations that satisfy them, and the lowest item with NEVER, by the least model.
 use mathlib.Core.Path.{_≡_}
 use mathlib.Core.Bool.{true, false}
 use mathlib.Core.List.{List}
@@ -53,16 +53,20 @@ InAll h q x i = (D : Interpretation) → Satisfies h (Concerns h q) D → D x i 
 abbrev pub InOneNot : Held → Question → Atom → ℤ → Type 0
 InOneNot h q x i = (D : Interpretation) × Satisfies h (Concerns h q) D × (D x i ≡ false)
 
+-- 01, Records: what a reply says, by which statements are so and which are not: yes, no, or the longest runs of the depths where the label is so
+abbrev pub Says-by : (Atom → ℤ → Type 0) → (Atom → ℤ → Type 0) → Question → Verdict → Type 0
+Says-by So Not (Question.Holds x i) Yes = So x i
+Says-by So Not (Question.Holds x i) No = Not x i
+Says-by So Not (Question.Holds x i) (Spans rs) = ⊥
+Says-by So Not (Question.Spans a A) Yes = ⊥
+Says-by So Not (Question.Spans a A) No = ⊥
+Says-by So Not (Question.Spans a A) (Spans rs) = Longest (So (Has a A)) rs
+
 -- demand 3: what a question comes to where some interpretation satisfies them
 abbrev pub Says : Held → Question → Verdict → Type 0
-Says h (Question.Holds x i) Yes = InAll h (Question.Holds x i) x i
-Says h (Question.Holds x i) No = InOneNot h (Question.Holds x i) x i
-Says h (Question.Holds x i) (Spans rs) = ⊥
-Says h (Question.Spans a A) Yes = ⊥
-Says h (Question.Spans a A) No = ⊥
-Says h (Question.Spans a A) (Spans rs) = Longest (InAll h (Question.Spans a A) (Has a A)) rs
+Says h q v = Says-by (InAll h q) (InOneNot h q) q v
 
--- demand 3: contradiction where none does
+-- demand 3: contradiction where none does, with the lowest item that has NEVER; else what the question comes to
 abbrev pub Decides : Held → Question → Reply → Type 0
 Decides h q (Contradiction a) = (Some h q → ⊥) × Lowest h q a
 Decides h q (Answered v) = Some h q × Says h q v

@@ -1,20 +1,12 @@
 -- What the least model decides, reply by reply: the twin of `Decides`.
-use Rattle.terms.specs.declared.Atom.the-variants.{Has}
 use Rattle.terms.specs.declared.Question.{Question}
-use Rattle.terms.specs.declared.Question.the-variants as Question
 use Rattle.terms.specs.Held.{Held}
-use Rattle.terms.specs.Spans.{Longest}
 use Rattle.logic.specs.Depths.{Derived}
-use Rattle.decide.specs.Decides.{Verdict, Yes, No, Spans, Reply, Contradiction, Answered, Never, Lowest}
+use Rattle.decide.specs.Decides.{Verdict, Reply, Contradiction, Answered, Never, Lowest, Says-by}
 
 -- demand 2: the same by the least model, which has the statement or has not
 abbrev pub Reads : Held → Question → Verdict → Type 0
-Reads h (Question.Holds x i) Yes = Derived h x i
-Reads h (Question.Holds x i) No = Derived h x i → ⊥
-Reads h (Question.Holds x i) (Spans rs) = ⊥
-Reads h (Question.Spans a A) Yes = ⊥
-Reads h (Question.Spans a A) No = ⊥
-Reads h (Question.Spans a A) (Spans rs) = Longest (Derived h (Has a A)) rs
+Reads h q v = Says-by (Derived h) (λ x i. Derived h x i → ⊥) q v
 
 -- demand 2: contradiction where an item concerned has NEVER
 abbrev pub Derives : Held → Question → Reply → Type 0

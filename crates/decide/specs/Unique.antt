@@ -4,6 +4,8 @@ use mathlib.Core.Bool.{Bool, true, false, true≢false}
 use Prim.Native.Nat.{ℕ, _<_}
 use native.Mathlib.Omega.{arith}
 use native.Mathlib.Decide.{decLt}
+use lib.IntN.{ℤ}
+use Rattle.terms.specs.declared.Atom.{Atom}
 use Rattle.terms.specs.declared.Atom.the-variants.{Has}
 use Rattle.terms.specs.declared.Question.{Question}
 use Rattle.terms.specs.declared.Question.the-variants as Question
@@ -21,6 +23,8 @@ use Rattle.decide.specs.Decides.{
   Never,
   Lowest,
   InAll,
+  InOneNot,
+  Says-by,
   Says,
   Decides,
 }
@@ -37,21 +41,27 @@ lowest-one h q a b s t = go (decLt a b) (decLt b a)
     go (no k) (yes l) = absurd (s .lower b (t .depth) l (t .concerned) (t .never))
     go (no k) (no l) = omega arith
 
+-- a question has one verdict, where nothing is so and not so
+verdict-one :
+    (So Not : Atom → ℤ → Type 0) → ((x : Atom) (i : ℤ) → So x i → Not x i → ⊥) → (q : Question) (v w : Verdict) → Says-by So Not q v →
+    Says-by So Not q w → v ≡ w
+verdict-one So Not apart (Question.Holds x i) Yes Yes d e = refl
+verdict-one So Not apart (Question.Holds x i) Yes No d e = absurd (apart x i d e)
+verdict-one So Not apart (Question.Holds x i) No Yes d e = absurd (apart x i e d)
+verdict-one So Not apart (Question.Holds x i) No No d e = refl
+verdict-one So Not apart (Question.Holds x i) Yes (Spans rs) d e = absurd e
+verdict-one So Not apart (Question.Holds x i) No (Spans rs) d e = absurd e
+verdict-one So Not apart (Question.Holds x i) (Spans rs) w d e = absurd d
+verdict-one So Not apart (Question.Spans a A) Yes w d e = absurd d
+verdict-one So Not apart (Question.Spans a A) No w d e = absurd d
+verdict-one So Not apart (Question.Spans a A) (Spans rs) Yes d e = absurd e
+verdict-one So Not apart (Question.Spans a A) (Spans rs) No d e = absurd e
+verdict-one So Not apart (Question.Spans a A) (Spans rs) (Spans ss) d e = ap Spans (longest-one (So (Has a A)) rs ss d e)
+
 -- ---- by the interpretations
 
 says-one : (h : Held) (q : Question) (v w : Verdict) → Says h q v → Says h q w → v ≡ w
-says-one h (Question.Holds x i) Yes Yes d e = refl
-says-one h (Question.Holds x i) Yes No d e = absurd (clash (d (e .0) (e .1)) (e .2))
-says-one h (Question.Holds x i) No Yes d e = absurd (clash (e (d .0) (d .1)) (d .2))
-says-one h (Question.Holds x i) No No d e = refl
-says-one h (Question.Holds x i) Yes (Spans rs) d e = absurd e
-says-one h (Question.Holds x i) No (Spans rs) d e = absurd e
-says-one h (Question.Holds x i) (Spans rs) w d e = absurd d
-says-one h (Question.Spans a A) Yes w d e = absurd d
-says-one h (Question.Spans a A) No w d e = absurd d
-says-one h (Question.Spans a A) (Spans rs) Yes d e = absurd e
-says-one h (Question.Spans a A) (Spans rs) No d e = absurd e
-says-one h (Question.Spans a A) (Spans rs) (Spans ss) d e = ap Spans (longest-one (InAll h (Question.Spans a A) (Has a A)) rs ss d e)
+says-one h q = verdict-one (InAll h q) (InOneNot h q) (λ x i all one. clash (all (one .0) (one .1)) (one .2)) q
 
 pub at-most-one : (h : Held) (q : Question) (r s : Reply) → Decides h q r → Decides h q s → r ≡ s
 at-most-one h q (Contradiction a) (Contradiction b) d e = ap Contradiction (lowest-one h q a b (d .1) (e .1))
@@ -62,18 +72,7 @@ at-most-one h q (Answered v) (Answered w) d e = ap Answered (says-one h q v w (d
 -- ---- by the least model
 
 reads-one : (h : Held) (q : Question) (v w : Verdict) → Reads h q v → Reads h q w → v ≡ w
-reads-one h (Question.Holds x i) Yes Yes d e = refl
-reads-one h (Question.Holds x i) Yes No d e = absurd (e d)
-reads-one h (Question.Holds x i) No Yes d e = absurd (d e)
-reads-one h (Question.Holds x i) No No d e = refl
-reads-one h (Question.Holds x i) Yes (Spans rs) d e = absurd e
-reads-one h (Question.Holds x i) No (Spans rs) d e = absurd e
-reads-one h (Question.Holds x i) (Spans rs) w d e = absurd d
-reads-one h (Question.Spans a A) Yes w d e = absurd d
-reads-one h (Question.Spans a A) No w d e = absurd d
-reads-one h (Question.Spans a A) (Spans rs) Yes d e = absurd e
-reads-one h (Question.Spans a A) (Spans rs) No d e = absurd e
-reads-one h (Question.Spans a A) (Spans rs) (Spans ss) d e = ap Spans (longest-one (Derived h (Has a A)) rs ss d e)
+reads-one h q = verdict-one (Derived h) (λ x i. Derived h x i → ⊥) (λ x i d n. n d) q
 
 pub lowest-never : (h : Held) (q : Question) (a : ℕ) → Lowest h q a → Never h q
 lowest-never h q a l = record { item = a; depth = l .depth; named = l .item; concerned = l .concerned; has = l .never }

@@ -1,19 +1,22 @@
--- An input has one line for each number, and one number of lines. Assumes nothing.
+-- An input has one line for each number, and one number of lines, which it has. Assumes nothing.
 use mathlib.Core.Path.{_≡_, refl, sym, ap, _∙_, subst}
-use mathlib.Core.Logic.{_⊎_, inl, inr}
-use mathlib.Core.Bool.{Bool, true, false}
+use mathlib.Core.Logic.{_⊎_, inl, inr, ⊎-elim}
+use mathlib.Core.Bool.{Bool, true, false, not}
 use mathlib.Core.List.{List}
-use Prim.Native.Nat.{ℕ, suc, _≤_, _<_}
+use Prim.Native.Nat.{ℕ, zero, suc, _≤_, _<_}
 use native.Mathlib.Omega.{arith}
 use borrow.Author.Tests.{ltb-true, ltb-false}
-use lib.Dec.{T, ltb}
-use lib.ListN.{drop}
+use lib.Dec.{T, eqb, ltb, eqb→eq}
+use lib.ListN.{length, drop, length-drop}
+use Rattle.terms.specs.Tests.{of-true}
 use Rattle.terms.specs.declared.Answer.{Answer}
 use Rattle.terms.specs.declared.Answer.the-variants as Answer
 use Rattle.commands.specs.Call.{call}
 use Rattle.commands.specs.Buffers.{Buffers}
 use Rattle.lines.specs.Lines.{lineText}
-use Rattle.harmikse.specs.Program.{tooLong, goesOn, Reaches, begun, handled, Prints, too-long, line-of, Whole, only-too-long, at-end, at-refusal-3}
+use Rattle.harmikse.specs.Program.{LIMIT, tooLong, goesOn, Reaches, begun, handled, Prints, too-long, line-of, Whole, only-too-long, at-end, at-refusal-3}
+use Rattle.harmikse.specs.Uses.{Within}
+use Rattle.harmikse.specs.Reached.{reached-uses}
 
 -- which of two numbers is less
 compared : (n k : ℕ) → (n < k) ⊎ ((n ≡ k) ⊎ (k < n))
@@ -139,3 +142,40 @@ line-some {input} {n} (at-refusal-3 {n = k} l r e) b = go (compared n k)
     go (inl c) = let w = stood {n = n} r (omega arith) in (_, line-of l (w .reached) (λ f. ended f (earlier r (w .reached) c)))
     go (inr (inl d)) = let w = here r (sym d) in (_, line-of l (w .reached) (last (answer-one (w .reached) r d ∙ e)))
     go (inr (inr c)) = let z : ⊥ = omega arith in absurd z
+
+-- and there is one: each record uses bytes, so that the run ends
+answers : (a : Answer) → (a ≡ Answer.End) ⊎ ((a ≡ Answer.Refused 3) ⊎ T (goesOn a))
+answers Answer.Done = inr (inr tt)
+answers Answer.Yes = inr (inr tt)
+answers Answer.No = inr (inr tt)
+answers (Answer.Contradiction a) = inr (inr tt)
+answers (Answer.Spans n) = inr (inr tt)
+answers Answer.End = inl refl
+answers (Answer.Refused n) = go (eqb n 3) refl
+  where
+    go : (b : Bool) → eqb n 3 ≡ b → (Answer.Refused n ≡ Answer.End) ⊎ ((Answer.Refused n ≡ Answer.Refused 3) ⊎ T (not (eqb n 3)))
+    go true e = inr (inl (ap Answer.Refused (eqb→eq n 3 (of-true e))))
+    go false e = inr (inr (subst (λ b. T (not b)) (sym e) tt))
+
+module _ (input : List ℕ) (few : length input ≤ LIMIT) where
+  -- the run stops there, or goes on
+  stops : {n : ℕ} {m : Buffers} {s : List ℕ} → Reaches input n m s → ((l : ℕ) × Whole input l) ⊎ T (goesOn (call m s .answer))
+  stops {n} {m} {s} r =
+      ⊎-elim (λ e. inl (n, at-end few r e)) (λ w. ⊎-elim (λ e. inl (suc n, at-refusal-3 few r e)) (λ g. inr g) w) (answers (call m s .answer))
+
+  -- with at most k bytes left
+  ends : (k : ℕ) {n : ℕ} {m : Buffers} {s : List ℕ} → Reaches input n m s → length s ≤ k → (l : ℕ) × Whole input l
+  ends zero r b =
+      ⊎-elim (λ w. w) (λ g. let u = reached-uses r (λ e. ended e g) in let z : ⊥ = omega (arith, u .some, u .room) in absurd z) (stops r)
+  ends (suc k) {m = m} {s = s} r b =
+      ⊎-elim (λ w. w)
+      (λ g.
+      let u = reached-uses r (λ e. ended e g) in ends k (handled r g) (omega (arith, u .some, u .room, length-drop (call m s .used) s)))
+      (stops r)
+
+pub whole-some : (input : List ℕ) → (n : ℕ) × Whole input n
+whole-some input = go (ltb LIMIT (length input)) refl
+  where
+    go : (b : Bool) → ltb LIMIT (length input) ≡ b → (n : ℕ) × Whole input n
+    go true e = (1, only-too-long (ltb-true LIMIT (length input) e))
+    go false e = ends input (ltb-false LIMIT (length input) e) (length input) begun (omega arith)

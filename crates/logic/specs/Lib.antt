@@ -12,3 +12,5 @@ pub mod Chains
 pub mod Classes
 pub mod ClassLaws
 pub mod Local
+pub mod Follows
+pub mod Unconcerned

@@ -1,7 +1,7 @@
 -- C gets the answer back: the halves of the number that a call returns are the answer's number and its value. Assumes nothing.
-use mathlib.Core.Path.{ap, _∙_}
+use mathlib.Core.Path.{_≡_, sym, ap, _∙_}
 use mathlib.Core.List.{List}
-use Prim.Native.Nat.{ℕ, _+_, _<_}
+use Prim.Native.Nat.{ℕ, _+_, _/_, _%_, _<_}
 use native.Mathlib.Nat.{add-zero, mul-add-div-right, div-eq-of-lt, mul-add-mod-self-right, mod-eq-of-lt}
 use native.Mathlib.Omega.{arith}
 use Rattle.terms.specs.declared.Answer.{Answer}
@@ -10,7 +10,7 @@ use Rattle.terms.specs.Answers.{numberOf, valueOf}
 use Rattle.commands.specs.Buffers.{Buffers}
 use Rattle.commands.specs.Call.{call, spanCall}
 use Rattle.claims.specs.Values.{call-value, span-value}
-use Rattle.panel.specs.Exported.{Unpacked}
+use Rattle.panel.specs.Exported.{packed, Unpacked}
 
 -- 01, Records: six answers, and a refusal
 few : (a : Answer) → numberOf a < 7
@@ -28,6 +28,11 @@ unpacked a h = record {
   value = mul-add-mod-self-right (numberOf a) 65536 (valueOf a) ∙ mod-eq-of-lt h;
   fits = omega (arith, few a);
 }
+
+-- so two answers that C gets as one number are one, by number and value
+pub packed-one : (a b : Answer) → Unpacked a → Unpacked b → packed a ≡ packed b → (numberOf a ≡ numberOf b) × (valueOf a ≡ valueOf b)
+packed-one a b u v e =
+    (sym (u .number) ∙ (ap (λ n. n / 65536) e ∙ v .number), sym (u .value) ∙ (ap (λ n. n % 65536) e ∙ v .value))
 
 -- whatever is lent and whatever the input, C gets the call's answer back
 pub call-unpacked : (m : Buffers) (s : List ℕ) → Unpacked (call m s .answer)

@@ -96,7 +96,7 @@ spansQuestion b = Question.Spans (getD b 0 0) (getD b 1 0)
 
 -- ---- the lengths
 
--- 01, Where a record is turned away: length not that of the kind
+-- 01, Where a record is turned away: length not that of the kind; no kind that has landed allows several lengths
 abbrev pub allows : Lengths → ℕ → Bool
 allows (Lengths.Exactly n) k = eqb k n
 allows (Lengths.AtLeast n) k = leb n k

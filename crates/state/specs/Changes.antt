@@ -1,4 +1,4 @@
--- 01's book on the held lists: the tests of the rows `lists`, and what an accepted record changes.
+-- 01's book on what is held: the tests of the rows `lists` and of 02's 15 to 17, and what an accepted record changes.
 use mathlib.Core.Bool.{not}
 use mathlib.Core.List.{List, [], _∷_, _++_}
 use lib.Dec.{leb, ltb}
@@ -40,13 +40,13 @@ countTests h = test (ltb 0 (length (h .rules))) 15 ∷ []
 abbrev pub confineTests : Held → List Test
 confineTests h = test (ltb 0 (length (h .marks))) 17 ∷ []
 
--- 01, The book: kinds 2 to 5 add their rule at the end of its list, kinds 6 and 7 their mark
+-- 01, The book: kinds 2 to 5 add their rule at the end of its list, kinds 6 and 7, and 02's 13 and 14, their mark
 abbrev pub addRule : Held → Rule → Held
 addRule h ρ = withRules h (h .rules ++ (ρ ∷ []))
 
 abbrev pub putMark : Held → Mark → Held
 putMark h m = withMarks h (h .marks ++ (m ∷ []))
 
--- 01, The book: kinds 8 and 9 strike the mark with the same fields; those behind it move up
+-- 01, The book: kinds 8 and 9, and 02's 15 and 16, strike the mark with the same fields; those behind it move up
 abbrev pub takeMark : Held → Mark → Held
 takeMark h m = withMarks h (strike (sameMark m) (h .marks))

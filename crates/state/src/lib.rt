@@ -6,7 +6,7 @@ ghost use lib.Dec.{T};
 ghost use lib.ListN.{take, drop};
 ghost use Rattle.terms.specs.Limits.{RULES, MARKS};
 ghost use Rattle.terms.specs.declared.Hole.the-variants as Bored;
-ghost use Rattle.terms.specs.Held.{withCounting, withHole, isMark};
+ghost use Rattle.terms.specs.Held.{withSettings, withCounting, withHole, isMark};
 ghost use Rattle.terms.specs.Places.{Marks-named};
 ghost use Rattle.terms.specs.Lists.{limits};
 ghost use Rattle.refusals.specs.Refusals.{tested as testedBy};
@@ -212,6 +212,16 @@ impl State {
         }
     }
 
+    // Other settings, with the lists as they are.
+    fn with_settings(self, settings: Settings) -> State
+        requires { ⌜ Counts-in self ⌝ }
+        ensures { λ r. ⌜ Holds (withSettings (heldOf self) settings) r ⌝ }
+    {
+        let mut state = self;
+        state.settings = settings;
+        state
+    }
+
     // The counting set, where no rule is held: rules are written for one.
     pub fn count(self, counting: Counting) -> Listed
         requires { ⌜ Counts-in self ⌝ }
@@ -227,11 +237,9 @@ impl State {
         let held = self.settings;
         let hole = held.hole;
         let settings = Settings { counting, hole };
-        let mut state = self;
-        state.settings = settings;
         Listed {
             tested: Tested::Passed,
-            state,
+            state: self.with_settings(settings),
         }
     }
 
@@ -254,11 +262,9 @@ impl State {
             counting,
             hole: bored,
         };
-        let mut state = self;
-        state.settings = settings;
         Listed {
             tested: Tested::Passed,
-            state,
+            state: self.with_settings(settings),
         }
     }
 

@@ -6,4 +6,5 @@ pub mod ExecutedLaws
 pub mod Tables
 pub mod TableLaws
 pub mod Bridge
+pub mod Shown
 pub mod Seeded

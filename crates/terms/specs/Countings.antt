@@ -14,5 +14,6 @@ bound New n = n + 1
 abbrev pub isCounting : ℕ → Bool
 isCounting x = eqb x 1 || eqb x 2
 
+-- and the counting of a number; one that is refused plays no part
 abbrev pub countingOf : ℕ → Counting
 countingOf x = cond (eqb x 2) New Old

@@ -45,19 +45,23 @@ withRules h rs = record { rules = rs; marks = h .marks; settings = h .settings }
 abbrev pub withMarks : Held → List Mark → Held
 withMarks h ms = record { rules = h .rules; marks = ms; settings = h .settings }
 
+-- 02: other settings
+abbrev pub withSettings : Held → Settings → Held
+withSettings h s = record { rules = h .rules; marks = h .marks; settings = s }
+
 -- 02, Slip 4: the counting in force, and another set
 abbrev pub countingIn : Held → Counting
 countingIn h = h .settings .counting
 
 abbrev pub withCounting : Held → Counting → Held
-withCounting h c = record { rules = h .rules; marks = h .marks; settings = record { counting = c; hole = h .settings .hole } }
+withCounting h c = withSettings h (record { counting = c; hole = h .settings .hole })
 
 -- 02, Slip 5: the hole in force, and another set
 abbrev pub holeIn : Held → Hole
 holeIn h = h .settings .hole
 
 abbrev pub withHole : Held → Hole → Held
-withHole h H = record { rules = h .rules; marks = h .marks; settings = record { counting = h .settings .counting; hole = H } }
+withHole h H = withSettings h (record { counting = h .settings .counting; hole = H })
 
 -- 01, The book: both lists empty at first, and nothing set
 abbrev pub emptyHeld : Held
@@ -113,5 +117,6 @@ isPlaced m = isDepth (m .top) && isDepth (m .bottom)
 abbrev pub isOrdered : Mark → Bool
 isOrdered m = leZ (m .top) (m .bottom)
 
+-- 01, Records: the fields of a mark
 abbrev pub isMark : Mark → Bool
 isMark m = isMarkable (m .atom) && (isPlaced m && isOrdered m)

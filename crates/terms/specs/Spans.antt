@@ -15,14 +15,16 @@ pub record Run : Type 0 where
 abbrev pub run : ℤ → ℤ → Run
 run t b = record { top = t; bottom = b }
 
--- 01, Records: the two numbers that mean no end
+-- 01, Records: the depth lies in the span; the two numbers that mean no end leave that side open
 pub record Covers (r : Run) (i : ℤ) : Type 0 where
   pub above : (r .top ≡ NO-TOP) ⊎ (r .top ≤ℤ i)
   pub below : (r .bottom ≡ NO-BOTTOM) ⊎ (i ≤ℤ r .bottom)
 
+-- it lies in one of them
 abbrev pub Covered : List Run → ℤ → Type 0
 Covered rs i = (r : Run) × (r ∈ rs) × Covers r i
 
+-- the top is not deeper than the bottom, and neither lies beyond its number for no end
 pub record Ordered (r : Run) : Type 0 where
   pub low : NO-TOP ≤ℤ r .top
   pub order : r .top ≤ℤ r .bottom

@@ -1,4 +1,4 @@
-// The vocabulary: operators, rules, marks, answers and the paper's limits.
+// The vocabulary: operators, countings, rules, marks, questions, the hole, settings, answers and the paper's limits.
 ghost use mathlib.Core.Path.{_≡_};
 ghost use mathlib.Core.Bool.{cond};
 ghost use lib.Dec.{T, eqb};
@@ -166,7 +166,7 @@ pub fn is_label(label: u8) -> bool
     label < LABELS
 }
 
-// A depth that a mark may have.
+// A depth that an end of a mark or of the hole may have.
 pub fn is_depth(depth: i32) -> bool
     ensures { λ r. ⌜ r ≡ isDepth depth ⌝ }
 {

@@ -1,5 +1,5 @@
 // Runs a script of calls against the service and prints what each call answers and leaves.
-// The memory lent is all zero at first: block 4,096, labels 3,200, links 50,000, spans 256 elements.
+// The memory lent is all zero at first: block 5,120, labels 3,200, links 50,000, spans 256 elements.
 // The steps, by their first byte, with numbers little-endian:
 //   1 CALL   u16 lengths of block, labels, links, spans and input, then the input
 //   2 SPANS  u16 lengths of block, labels, links, spans, then u8 item, u8 label

@@ -1,4 +1,4 @@
--- What is read off the lent tables: the lowest item with NEVER, and a statement's bit.
+-- What is read off the lent tables: the lowest item with NEVER of those concerned, and a statement's bit.
 use mathlib.Core.Bool.{Bool, true, false, _&&_, _||_}
 use mathlib.Core.List.{List}
 use Prim.Native.Nat.{ℕ, zero, suc, _+_, _*_}

@@ -1,6 +1,6 @@
 -- By the question: the bit of its statement, or the spans that were written.
 use lib.ListN.{take}
-use mathlib.Core.Path.{sym, ap, subst, _∙_}
+use mathlib.Core.Path.{_≡_, sym, ap, subst, _∙_}
 use mathlib.Core.Bool.{true, false, _&&_}
 use native.Mathlib.Omega.{arith}
 use lib.Dec.{T}
@@ -8,8 +8,10 @@ use mir.Syntax.{w64}
 use mir.Val.{SFits}
 use mir.Facts.{toZ-ofZ}
 use Rattle.terms.specs.declared.Question.{Question}
+use Rattle.terms.specs.Holes.{isInside}
 use Rattle.terms.specs.Held.{isQuestion}
 use Rattle.terms.specs.Names.{label-names}
+use Rattle.line.specs.Cuts.{upto}
 use Rattle.verdicts.specs.Reading.{holdsIn}
 use Rattle.questions.proofs.Answering.{holds-read, spans-read, count-fits, interval-low}
 use borrow.Author.Needs.{needs}
@@ -39,21 +41,30 @@ holds-requires c κs =
       interval-low cuts (known .0 .1 .0) (found .interval-of .result) (start .pre .few) at,
     )
 
+-- what was found is what the tables say at the depth
+found : (c : tie.After-holds) →
+    let there = c .before in
+    let known = there .before .before .before .question .given in
+    let start = there .before .before .before .before .before .before .before in
+    let cuts = take (start .args .n) (start .args .cuts .now) in
+    (isInside (start .args .hole) (known .0 .1 .0) && holdsIn (start .args .labels .now) (start .args .links .now) (known .0 .0) (upto cuts (known .0 .1 .0)))
+    ≡ (there .contains .result && c .holds .result)
+found c =
+    let there = c .before in
+    let known = there .before .before .before .question .given in
+    let start = there .before .before .before .before .before .before .before in
+    let fits : SFits w64 (known .0 .1 .0) = search needs in
+    let at = rw (toZ-ofZ fits) at (there .before .interval-of .ensures) in
+    let inside = rw (toZ-ofZ fits) at (there .contains .ensures) in
+    let holds = c .holds .ensures ∙ ap (holdsIn (start .args .labels .now) (start .args .links .now) (known .0 .0)) at in
+    sym (λ i. inside i && holds i)
+
 returns : tie.Need-returns
 returns c =
-    let there = c .before .before in
-    let found = there .before in
-    let known = found .before .before .question .given in
-    let start = found .before .before .before .before .before .before in
-    let hole = start .args .hole in
-    let labels = start .args .labels .now in
-    let links = start .args .links .now in
-    let fits : SFits w64 (known .0 .1 .0) = search needs in
-    let at = rw (toZ-ofZ fits) at (found .interval-of .ensures) in
-    let inside = rw (toZ-ofZ fits) at (there .contains .ensures) in
-    let holds = c .before .holds .ensures ∙ ap (holdsIn labels links (known .0 .0)) at in
-    holds-read hole _ labels links (start .args .question) (known .0 .0) (known .0 .1 .0) (start .args .spans .now) (known .1) true
-    (sym (λ i. inside i && holds i) ∙ c .if1 .taken)
+    let known = c .before .before .before .before .before .question .given in
+    let start = c .before .before .before .before .before .before .before .before .before in
+    holds-read (start .args .hole) _ (start .args .labels .now) (start .args .links .now) (start .args .question)
+    (known .0 .0) (known .0 .1 .0) (start .args .spans .now) (known .1) true (found (c .before) ∙ c .if1 .taken)
 
 enum-known-question-2 : tie.Need-enum-known-question-2
 enum-known-question-2 c = search needs
@@ -85,19 +96,10 @@ cast-t22 c =
 
 returns-2 : tie.Need-returns-2
 returns-2 c =
-    let there = c .before .before in
-    let found = there .before in
-    let known = found .before .before .question .given in
-    let start = found .before .before .before .before .before .before in
-    let hole = start .args .hole in
-    let labels = start .args .labels .now in
-    let links = start .args .links .now in
-    let fits : SFits w64 (known .0 .1 .0) = search needs in
-    let at = rw (toZ-ofZ fits) at (found .interval-of .ensures) in
-    let inside = rw (toZ-ofZ fits) at (there .contains .ensures) in
-    let holds = c .before .holds .ensures ∙ ap (holdsIn labels links (known .0 .0)) at in
-    holds-read hole _ labels links (start .args .question) (known .0 .0) (known .0 .1 .0) (start .args .spans .now) (known .1) false
-    (sym (λ i. inside i && holds i) ∙ c .if1 .left)
+    let known = c .before .before .before .before .before .question .given in
+    let start = c .before .before .before .before .before .before .before .before .before in
+    holds-read (start .args .hole) _ (start .args .labels .now) (start .args .links .now) (start .args .question)
+    (known .0 .0) (known .0 .1 .0) (start .args .spans .now) (known .1) false (found (c .before) ∙ c .if1 .left)
 
 same-length : tie.Need-same-length
 same-length c = search needs

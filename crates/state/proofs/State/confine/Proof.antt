@@ -16,22 +16,16 @@ returns c =
     let n = length-take-le (s .«mark_count») (s .marks) (omega arith) in
     refused-as _ _ _ (Tested.Refused 17) _ (sym (rw (n, lt-ltb 0 (s .«mark_count») (c .if1 .taken)))) 17 refl (record { held = refl; counts = start .pre })
 
+with-settings-requires : tie.Need-with-settings-requires
+with-settings-requires c κs = c .before .before .pre
+
 returns-2 : tie.Need-returns-2
 returns-2 c =
-    let start = c .before .before in
+    let start = c .before .before .before in
     let s = start .args .self in
-    let p = start .pre in
     let n = length-take-le (s .«mark_count») (s .marks) (omega arith) in
-    accepted-as _ _ _ Tested.Passed _ (sym (rw (n, le-ltb 0 (s .«mark_count») (c .before .if1 .left)))) refl
-    (record {
-      held = rw (toZ-ofZ (start .fits .top), toZ-ofZ (start .fits .bottom));
-      counts = record {
-        rule-places = p .rule-places;
-        few-rules = p .few-rules;
-        mark-places = p .mark-places;
-        few-marks = p .few-marks;
-      };
-    })
+    let set = rw (toZ-ofZ (start .fits .top), toZ-ofZ (start .fits .bottom)) at (c .with-settings .ensures) in
+    accepted-as _ _ _ Tested.Passed _ (sym (rw (n, le-ltb 0 (s .«mark_count») (c .before .before .if1 .left)))) refl set
 
 pub confine-spec : {M : Type 1} → statement M
-confine-spec = tie.close (tie.spec returns returns-2)
+confine-spec = tie.close (tie.spec returns with-settings-requires returns-2)

@@ -15,22 +15,15 @@ returns c =
     let n = rules-length (s .rules) (s .«rule_count») (omega arith) in
     refused-as _ _ _ (Tested.Refused 15) _ (sym (rw (n, lt-ltb 0 (s .«rule_count») (c .if1 .taken)))) 15 refl (record { held = refl; counts = start .pre })
 
+with-settings-requires : tie.Need-with-settings-requires
+with-settings-requires c κs = c .before .before .pre
+
 returns-2 : tie.Need-returns-2
 returns-2 c =
-    let start = c .before .before in
+    let start = c .before .before .before in
     let s = start .args .self in
-    let p = start .pre in
     let n = rules-length (s .rules) (s .«rule_count») (omega arith) in
-    accepted-as _ _ _ Tested.Passed _ (sym (rw (n, le-ltb 0 (s .«rule_count») (c .before .if1 .left)))) refl
-    (record {
-      held = refl;
-      counts = record {
-        rule-places = p .rule-places;
-        few-rules = p .few-rules;
-        mark-places = p .mark-places;
-        few-marks = p .few-marks;
-      };
-    })
+    accepted-as _ _ _ Tested.Passed _ (sym (rw (n, le-ltb 0 (s .«rule_count») (c .before .before .if1 .left)))) refl (c .with-settings .ensures)
 
 pub count-spec : {M : Type 1} → statement M
-count-spec = tie.close (tie.spec returns returns-2)
+count-spec = tie.close (tie.spec returns with-settings-requires returns-2)
