@@ -5,6 +5,7 @@ use mathlib.Core.Logic.{⊎-elim}
 use mathlib.Core.Bool.{Bool}
 use mathlib.Core.List.{List, [], _∷_, _++_, map, List·Memᴰ·cases-cons, List·Memᴰ·not-nil}
 use lib.Dec.{T}
+use lib.ListN.{length}
 use Rattle.terms.specs.Tests.{and-both, both-and}
 use Rattle.terms.specs.Limits.{ITEMS}
 use Rattle.terms.specs.Held.{_∈_}
@@ -94,6 +95,10 @@ each (k ∷ cs) t c m =
     (subst (λ r. Decides (k .held) (k .question) r) e (answer-decides (k .held) (in-range (k .held) (limited (k .held) (w .0))) (k .question))))
     (λ n. each cs (record { kept = w .1; same = f }) c n)
     (List·Memᴰ·cases-cons m)
+
+-- no row went missing
+pub all-rows : length cases ≡ 231
+all-rows = refl
 
 pub worked-cases : (c : Case) → c ∈ cases → Decides (c .held) (c .question) (c .reply)
 worked-cases = each cases checked

@@ -17,7 +17,9 @@ use Rattle.terms.specs.Spans.{flat}
 use Rattle.logic.specs.Depths.{Derived}
 use Rattle.spans.specs.Longest.{longest-one}
 use Rattle.tables.specs.Shown.{labels-one, links-one}
-use Rattle.decide.specs.Decides.{Never}
+use Rattle.decide.specs.Decides.{Yes, No, Spans, Reply, Contradiction, Answered, Never, InAll, Decides}
+use Rattle.decide.specs.Unique.{lowest-one}
+use Rattle.decide.specs.Verdicts.{answerOf}
 use Rattle.commands.specs.Buffers.{After}
 use Rattle.claims.specs.Ascending.{differ}
 use Rattle.claims.specs.Exact.{Runs-written, Contradicts, Exact}
@@ -100,3 +102,17 @@ module _ (h : Held) (q : Question) (r k : After) (R : Exact h q r) (K : Exact h 
   exact-links =
       links-one h (R .number) (K .number) (R .count) (K .count) (R .pieces) (K .pieces) (r .buffers .labels) (r .buffers .links) (k .buffers .labels)
       (k .buffers .links) (R .tables) (K .tables)
+
+-- by the interpretations too: an exact answer is the one that they decide
+pub exact-decides : (h : Held) (q : Question) (r : After) (y : Reply) → Exact h q r → Decides h q y → r .answer ≡ answerOf y
+exact-decides h q r (Contradiction a) R d =
+    let (b, e) = R .none-satisfies .1 (d .0) in e ∙ ap Answer.Contradiction (lowest-one h q b a (R .lowest b .0 e) (d .1))
+exact-decides h (Question.Holds x i) r (Answered Yes) R d = R .by-interpretations .0 .1 d
+exact-decides h (Question.Holds x i) r (Answered No) R d = R .by-interpretations .1 .1 d
+exact-decides h (Question.Holds x i) r (Answered (Spans rs)) R d = absurd (d .1)
+exact-decides h (Question.Spans a A) r (Answered Yes) R d = absurd (d .1)
+exact-decides h (Question.Spans a A) r (Answered No) R d = absurd (d .1)
+exact-decides h (Question.Spans a A) r (Answered (Spans rs)) R d =
+    let (n, e) = R .by-interpretations .0 .1 (d .0) in
+    let w = R .by-interpretations .1 n e in
+    e ∙ ap Answer.Spans (sym (w .number) ∙ ap length (longest-one (InAll h (Question.Spans a A) (Has a A)) (w .runs) rs (w .longest) (d .1)))

@@ -14,7 +14,7 @@ use Rattle.records.specs.declared.Command.{Command}
 use Rattle.records.specs.declared.Command.the-variants as Command
 use Rattle.records.specs.Formats.{lengthField, kindField, bodyOf, isUnknown, lengthsOf}
 use Rattle.records.specs.Records.{bodyTests, commandIn, frameTests}
-use Rattle.commands.specs.Call.{listTests}
+use Rattle.commands.specs.Call.{heldTests}
 use Rattle.claims.specs.Table.{
   Counts,
   Confines,
@@ -59,7 +59,7 @@ numbers = 1 ∷ 2 ∷ 3 ∷ 4 ∷ 5 ∷ 6 ∷ 7 ∷ 8 ∷ 9 ∷ 10 ∷ 11 ∷ 12
 
 -- the tests of body and lists, as the record is read
 abbrev pub recordTests : Held → ℕ → List ℕ → List Test
-recordTests h k b = bodyTests (h .settings) k b ++ listTests h (commandIn k b) b
+recordTests h k b = bodyTests (h .settings) k b ++ heldTests h (commandIn k b) b
 
 -- a kind that there is not has no rows, and is unknown
 unknown : (h : Held) (k : ℕ) (b : List ℕ) → None k numbers → (tested (recordTests h k b) ≡ tested (recordRows h k b)) × (isUnknown (lengthsOf k) ≡ true)

@@ -36,7 +36,7 @@ use Rattle.commands.specs.Call.{
   Ended,
   Changed,
   Asked,
-  listTests,
+  heldTests,
   obey,
   judged,
   replied,
@@ -110,14 +110,14 @@ pub record Laws : Type 0 where
   pub good-encode : (h : Held) (t : List ℕ) → T (limits h) → T (good (encode h ++ t))
   pub accepted :
       (h : Held) (s : List ℕ) (c : Command) (b : List ℕ) (u : ℕ) → Limited h → parse (h .settings) s ≡ Parsed.Record c b u →
-      tested (listTests h c b) ≡ Tested.Passed → Stays-limited (obey h c b u)
+      tested (heldTests h c b) ≡ Tested.Passed → Stays-limited (obey h c b u)
 
 module _ (𝓛 : Laws) where
   pub judged-limited : (h : Held) (s : List ℕ) → Limited h → Stays-limited (judged h (parse (h .settings) s))
   judged-limited h s w = go (parse (h .settings) s) refl
     where
       pick :
-          (c : Command) (b : List ℕ) (u : ℕ) → parse (h .settings) s ≡ Parsed.Record c b u → (t : Tested) → tested (listTests h c b) ≡ t →
+          (c : Command) (b : List ℕ) (u : ℕ) → parse (h .settings) s ≡ Parsed.Record c b u → (t : Tested) → tested (heldTests h c b) ≡ t →
           Stays-limited (onTested (obey h c b u) (λ n. Refused n u) t)
       pick c b u e Tested.Passed f = 𝓛 .accepted h s c b u w e f
       pick c b u e (Tested.Refused n) f = tt
@@ -125,7 +125,7 @@ module _ (𝓛 : Laws) where
       go : (p : Parsed) → parse (h .settings) s ≡ p → Stays-limited (judged h p)
       go Parsed.Nothing e = tt
       go (Parsed.Refused n u) e = tt
-      go (Parsed.Record c b u) e = pick c b u e (tested (listTests h c b)) refl
+      go (Parsed.Record c b u) e = pick c b u e (tested (heldTests h c b)) refl
 
   -- what a call leaves: the book's result, and the book's lists in the memory
   pub record Then (h : Held) (mem : List ℕ) (c : Lending) (o : Outcome) (a : After) : Type 0 where

@@ -31,7 +31,7 @@ use Rattle.records.specs.declared.Command.{Command}
 use Rattle.records.specs.declared.Command.the-variants as Command
 use Rattle.records.specs.Parsed as Parsed
 use Rattle.records.specs.Records.{parse}
-use Rattle.commands.specs.Call.{Outcome, Changed, listTests, obey}
+use Rattle.commands.specs.Call.{Outcome, Changed, heldTests, obey}
 use Rattle.claims.specs.Kept.{
   in-some,
   every-in,
@@ -131,7 +131,7 @@ module _ (𝓛 : Laws) (rule-record : (σ : Settings) (ρ : Rule) → T (isRule 
   lending = record { labels = labels-lent; links = links-lent; spans = spans-lent; lend = SIZE; behind = [] }
 
   one-more-record :
-      (h k : Held) (c : Command) (w : Written (h .settings) c) → tested (listTests h c (w .body)) ≡ Tested.Passed →
+      (h k : Held) (c : Command) (w : Written (h .settings) c) → tested (heldTests h c (w .body)) ≡ Tested.Passed →
       ((u : ℕ) → obey h c (w .body) u ≡ Changed k u) → Reached h → Reached k
   one-more-record h k c w e f R =
       let a = not-short (length labels-lent) LABEL-ENTRIES (omega (arith, labels-long)) in

@@ -28,7 +28,7 @@ use Rattle.decide.specs.Answer.{answer}
 use Rattle.decide.specs.Verdicts.{answerOf}
 use Rattle.commands.specs.Buffers.{Buffers, After, after, short}
 use Rattle.commands.specs.Code.{replied-is}
-use Rattle.commands.specs.Call.{Outcome, Refused, Ended, listTests, obey, judged, effect, call}
+use Rattle.commands.specs.Call.{Outcome, Refused, Ended, heldTests, obey, judged, effect, call}
 use Rattle.claims.specs.Ascending.{
   differ,
   same-number,
@@ -113,17 +113,17 @@ module _ (h : Held) (s : List ℕ) where
 
   -- the rows of the body before them
   by-body :
-      eqb (length s) 0 ≡ false → (t u : Tested) → u ≡ tested (listTests h (commandOf s) b) →
+      eqb (length s) 0 ≡ false → (t u : Tested) → u ≡ tested (heldTests h (commandOf s) b) →
       ((n : ℕ) → orElse t u ≡ Tested.Refused n → rank 3 < rank n) →
       judged h (parsedBody (decodedAs t (commandOf s)) b used) ≡ outcomeBy h s (orElse t u)
   by-body e Tested.Passed u f r = ap (λ (v : Tested). onTested (obey h (commandOf s) b used) (λ n. Refused n used) v) (sym f) ∙ by-lists e u r
   by-body e (Tested.Refused n) u f r = ap (Refused n) (sym (used-whole n (r n refl)))
 
   abbrev rest : Tested
-  rest = orElse (tested (bodyTests (h .settings) k b)) (tested (listTests h (commandOf s) b))
+  rest = orElse (tested (bodyTests (h .settings) k b)) (tested (heldTests h (commandOf s) b))
 
   tested-rest : tested (recordTests h k b) ≡ rest
-  tested-rest = tested-append (bodyTests (h .settings) k b) (listTests h (commandOf s) b)
+  tested-rest = tested-append (bodyTests (h .settings) k b) (heldTests h (commandOf s) b)
 
   past-frame : (n : ℕ) → rest ≡ Tested.Refused n → rank 3 < rank n
   past-frame n e =
@@ -134,7 +134,7 @@ module _ (h : Held) (s : List ℕ) where
   by-frame :
       eqb (length s) 0 ≡ false → (t : Tested) →
       judged h (parsedFrame (h .settings) s (onTested (Framed.Record k used) (λ n. Framed.Refused n (usedFor n s)) t)) ≡ outcomeBy h s (orElse t rest)
-  by-frame e Tested.Passed = by-body e (tested (bodyTests (h .settings) k b)) (tested (listTests h (commandOf s) b)) refl past-frame
+  by-frame e Tested.Passed = by-body e (tested (bodyTests (h .settings) k b)) (tested (heldTests h (commandOf s) b)) refl past-frame
   by-frame e (Tested.Refused n) = refl
 
   tested-record : tested (frameTests s ++ recordTests h k b) ≡ orElse (tested (frameTests s)) rest

@@ -21,7 +21,7 @@ use Rattle.records.specs.declared.Command.{Command}
 use Rattle.records.specs.declared.Command.the-variants as Command
 use Rattle.records.specs.Proper.{Proper, parse-proper}
 use Rattle.records.specs.Records.{parse}
-use Rattle.commands.specs.Call.{Outcome, Refused, listTests, obey, judged, call}
+use Rattle.commands.specs.Call.{Outcome, Refused, heldTests, obey, judged, call}
 use Rattle.commands.specs.Buffers.{Buffers, isShort, short}
 use Rattle.claims.specs.Refused.{two-by-block, end-by-block}
 use Rattle.commands.specs.Code.{enough}
@@ -37,7 +37,7 @@ use Rattle.claims.specs.Reach.{good-exactly}
 use Rattle.claims.specs.Writing.{written}
 
 -- an accepted command keeps the limits
-accepted : (h : Held) (c : Command) (b : List ℕ) (u : ℕ) → Limited h → T (Proper c) → tested (listTests h c b) ≡ Tested.Passed → Stays-limited (obey h c b u)
+accepted : (h : Held) (c : Command) (b : List ℕ) (u : ℕ) → Limited h → T (Proper c) → tested (heldTests h c b) ≡ Tested.Passed → Stays-limited (obey h c b u)
 accepted h Command.Reset b u w p e = empty-limited
 accepted h (Command.Add ρ) b u w p e = added-limited h ρ w p e
 accepted h (Command.Put m) b u w p e = put-limited h m w p e

@@ -12,8 +12,8 @@ use Rattle.terms.specs.declared.Tested.the-variants as Tested
 use Rattle.refusals.specs.Refusals.{Test, tested}
 use Rattle.terms.specs.Otherwise.{onTested}
 use Rattle.terms.specs.Held.{Held}
-use Rattle.state.specs.declared.Listed.{Listed}
-use Rattle.state.specs.State.{heldOf, Listed-as}
+use Rattle.state.specs.declared.Change.{Change}
+use Rattle.state.specs.State.{heldOf, Change-as}
 use Rattle.block.specs.Layout.{SIZE, encode}
 use Rattle.records.specs.declared.Command.{Command}
 use Rattle.records.specs.Parsed.{Parsed}
@@ -35,9 +35,9 @@ module _ (b t k : List ℕ) (s : List ℤ) where
   abbrev m : Buffers
   m = lent b t k s
 
-  -- a list operation, by what its tests came to
+  -- a change, by what its tests came to
   pub changed :
-      (h then : Held) (tests : List Test) (u : ℕ) (l : Listed) (b′ : List ℕ) (r : Code.Reply) → Listed-as tests h then l → Kept-as l u b b′ r →
+      (h then : Held) (tests : List Test) (u : ℕ) (l : Change) (b′ : List ℕ) (r : Code.Reply) → Change-as tests h then l → Kept-as l u b b′ r →
       afterOf r b′ t k s ≡ effect h m (onTested (Changed then u) (λ n. Refused n u) (tested tests))
   changed h then tests u l b′ r L K = go (tested tests) (L .said) (L .held)
     where

@@ -43,14 +43,14 @@ pub data Outcome : Type 0 where
   Asked : Question → ℕ → Outcome
 
 -- 01, Where a record is turned away: lists. A command is judged with its body
-abbrev pub listTests : Held → Command → List ℕ → List Test
-listTests h Command.Reset b = []
-listTests h (Command.Add ρ) b = ruleTests h ρ
-listTests h (Command.Put m) b = putTests h m
-listTests h (Command.Take m) b = takeTests h m
-listTests h (Command.Count c) b = countTests h
-listTests h (Command.Confine t d) b = confineTests h
-listTests h (Command.Ask q) b = []
+abbrev pub heldTests : Held → Command → List ℕ → List Test
+heldTests h Command.Reset b = []
+heldTests h (Command.Add ρ) b = ruleTests h ρ
+heldTests h (Command.Put m) b = putTests h m
+heldTests h (Command.Take m) b = takeTests h m
+heldTests h (Command.Count c) b = countTests h
+heldTests h (Command.Confine t d) b = confineTests h
+heldTests h (Command.Ask q) b = []
 
 -- 01, The book: what an accepted record does
 abbrev pub obey : Held → Command → List ℕ → ℕ → Outcome
@@ -65,7 +65,7 @@ obey h (Command.Ask q) b u = Asked q u
 abbrev pub judged : Held → Parsed → Outcome
 judged h Parsed.Nothing = Ended
 judged h (Parsed.Refused n u) = Refused n u
-judged h (Parsed.Record c b u) = onTested (obey h c b u) (λ n. Refused n u) (tested (listTests h c b))
+judged h (Parsed.Record c b u) = onTested (obey h c b u) (λ n. Refused n u) (tested (heldTests h c b))
 
 -- ---- what it leaves
 

@@ -13,7 +13,7 @@ use Rattle.terms.specs.Limits.{LABEL-ENTRIES, LINK-ENTRIES, SPAN-NUMBERS}
 use Rattle.terms.specs.Held.{Held}
 use Rattle.refusals.specs.Refusals.{tested}
 use Rattle.terms.specs.Otherwise.{onTested}
-use Rattle.state.specs.declared.Listed.{Listed}
+use Rattle.state.specs.declared.Change.{Change}
 use Rattle.state.specs.State.{heldOf}
 use Rattle.block.specs.Layout.{SIZE, encode}
 use Rattle.decide.specs.Decides.{Yes, No, Spans, Reply, Contradiction, Answered}
@@ -42,8 +42,8 @@ enough b t k s e =
       spans = ltb-false s SPAN-NUMBERS g;
     }
 
--- a list operation's outcome, and the block then
-pub record Kept-as (l : Listed) (used : ℕ) (old new : List ℕ) (r : Code.Reply) : Type 0 where
+-- a change's outcome, and the block then
+pub record Kept-as (l : Change) (used : ℕ) (old new : List ℕ) (r : Code.Reply) : Type 0 where
   pub said : r .answer ≡ onTested Answer.Done Answer.Refused (l .tested)
   pub block : new ≡ onTested (encode (heldOf (l .state)) ++ drop SIZE old) (λ n. old) (l .tested)
   pub bytes : r .used ≡ used

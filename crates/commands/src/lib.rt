@@ -13,7 +13,7 @@ ghost use Rattle.commands.specs.Call.{judged, effect};
 ghost use Rattle.commands.specs.Buffers.{lent, afterOf};
 ghost use Rattle.commands.specs.Code.{Enough, Kept-as};
 use records::Command;
-use state::Listed;
+use state::Change;
 use state::State;
 use terms::Answer;
 use terms::Tested;
@@ -42,13 +42,13 @@ fn done(used: usize) -> Reply
     }
 }
 
-// A list operation: refused, or stored.
-fn keep(block: &mut [u8], listed: Listed, used: usize) -> Reply
-    requires { ⌜ Counts-in (listed .state) × (SIZE ≤ length (now block)) ⌝ }
-    ensures { λ r. ⌜ Kept-as listed used (now (block .entry)) (now (block .exit)) r ⌝ }
+// A change: refused, or stored.
+fn keep(block: &mut [u8], change: Change, used: usize) -> Reply
+    requires { ⌜ Counts-in (change .state) × (SIZE ≤ length (now block)) ⌝ }
+    ensures { λ r. ⌜ Kept-as change used (now (block .entry)) (now (block .exit)) r ⌝ }
 {
-    let tested = listed.tested;
-    let state = listed.state;
+    let tested = change.tested;
+    let state = change.state;
     match tested {
         Tested::Passed => {
             block::store(block, state);

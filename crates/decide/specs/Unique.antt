@@ -33,7 +33,7 @@ use Rattle.decide.specs.Derives.{Reads, Derives}
 pub clash : {b : Bool} → b ≡ true → b ≡ false → ⊥
 clash e f = true≢false (sym e ∙ f)
 
-lowest-one : (h : Held) (q : Question) (a b : ℕ) → Lowest h q a → Lowest h q b → a ≡ b
+pub lowest-one : (h : Held) (q : Question) (a b : ℕ) → Lowest h q a → Lowest h q b → a ≡ b
 lowest-one h q a b s t = go (decLt a b) (decLt b a)
   where
     go : Dec (a < b) → Dec (b < a) → a ≡ b

@@ -27,7 +27,7 @@ use Rattle.records.specs.Records.{framed, decodeBody, parsedBody, parsedFrame, 
 use Rattle.records.specs.Formats.{lengthField, kindField, bodyOf, isUnknown, allows, lengthsOf, usedFor}
 use Rattle.decide.specs.Answer.{answer}
 use Rattle.decide.specs.Decides.{Yes, No, Spans, Reply, Contradiction, Answered}
-use Rattle.commands.specs.Call.{Outcome, Refused, Ended, Changed, Asked, listTests, obey, judged, replied, effect}
+use Rattle.commands.specs.Call.{Outcome, Refused, Ended, Changed, Asked, heldTests, obey, judged, replied, effect}
 use Rattle.commands.specs.Buffers.{Buffers}
 
 -- so many bytes of those left
@@ -99,7 +99,7 @@ obeyed-uses h s b (Command.Ask q) u w = w
 judged-uses : (h : Held) (s : List ℕ) (p : Parsed) → Parsed-uses s p → Outcome-uses s (judged h p)
 judged-uses h s Parsed.Nothing w = tt
 judged-uses h s (Parsed.Refused n u) w = w
-judged-uses h s (Parsed.Record c b u) w = go (tested (listTests h c b))
+judged-uses h s (Parsed.Record c b u) w = go (tested (heldTests h c b))
   where
     go : (t : Tested) → Outcome-uses s (onTested (obey h c b u) (λ n. Refused n u) t)
     go Tested.Passed = obeyed-uses h s b c u w

@@ -19,15 +19,15 @@ use Rattle.terms.specs.Otherwise.{onTested}
 use Rattle.terms.specs.Same.{sameRule, sameMark}
 use Rattle.terms.specs.Lists.{some, depthCount}
 use Rattle.state.specs.declared.State.{State}
-use Rattle.state.specs.State.{Listed-as}
+use Rattle.state.specs.State.{Change-as}
 use Rattle.state.specs.Changes.{ruleTests, roomTests, putTests}
 use Rattle.state.specs.Holding.{Holds}
 
 module _ (tests : List Test) (h then : Held) (t : Tested) (s : State) (e : t ≡ tested tests) where
-  pub accepted-as : t ≡ Tested.Passed → Holds then s → Listed-as tests h then record { tested = t; state = s }
+  pub accepted-as : t ≡ Tested.Passed → Holds then s → Change-as tests h then record { tested = t; state = s }
   accepted-as z w = record { said = e; held = w .held ∙ ap (onTested then (λ n. h)) (sym z ∙ e); counts = w .counts }
 
-  pub refused-as : (n : ℕ) → t ≡ Tested.Refused n → Holds h s → Listed-as tests h then record { tested = t; state = s }
+  pub refused-as : (n : ℕ) → t ≡ Tested.Refused n → Holds h s → Change-as tests h then record { tested = t; state = s }
   refused-as n z w = record { said = e; held = w .held ∙ ap (onTested then (λ n. h)) (sym z ∙ e); counts = w .counts }
 
 clash : (n : ℕ) → Tested.Refused n ≡ Tested.Passed → ⊥

@@ -1,4 +1,4 @@
--- What a state holds after a step of a list operation.
+-- What a state holds after a change.
 use mathlib.Core.Path.{_≡_, refl, sym, subst}
 use native.Mathlib.Omega.{arith}
 use lib.Dec.{T}
@@ -16,7 +16,7 @@ pub record Holds (h : Held) (s : State) : Type 0 where
   pub held : heldOf s ≡ h
   pub counts : Counts-in s
 
--- what the list operations ask of the held marks, where each is in range
+-- what the changes ask of the held marks, where each is in range
 pub marks-named : (s : State) → Counts-in s → T (every isMark (heldOf s .marks)) → Marks-named (s .marks) (s .«mark_count»)
 marks-named s p t = record { size = p .mark-places; few = p .few-marks; each = λ k m. every-in isMark (heldOf s .marks) t k m }
 

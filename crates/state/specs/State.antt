@@ -1,4 +1,4 @@
--- What a state holds, and what the list operations say of it.
+-- What a state holds, and what the changes to it say of it.
 use mathlib.Core.Path.{_≡_}
 use mathlib.Core.List.{List}
 use Prim.Native.Nat.{_≤_}
@@ -7,7 +7,7 @@ use Rattle.terms.specs.Limits.{RULES, MARKS}
 use Rattle.terms.specs.Held.{Held, freshSettings}
 use Rattle.terms.specs.Places.{emptyMark, emptyPlace, heldIn}
 use Rattle.state.specs.declared.State.{State}
-use Rattle.state.specs.declared.Listed.{Listed}
+use Rattle.state.specs.declared.Change.{Change}
 use Rattle.refusals.specs.Refusals.{Test, tested}
 use Rattle.terms.specs.Otherwise.{onTested}
 
@@ -32,7 +32,7 @@ pub record Counts-in (s : State) : Type 0 where
   pub few-marks : s .«mark_count» ≤ MARKS
 
 -- what the tests came to, and the state then: `then` where none applies, else as it was
-pub record Listed-as (tests : List Test) (h then : Held) (r : Listed) : Type 0 where
+pub record Change-as (tests : List Test) (h then : Held) (r : Change) : Type 0 where
   pub said : r .tested ≡ tested tests
   pub held : heldOf (r .state) ≡ onTested then (λ n. h) (tested tests)
   pub counts : Counts-in (r .state)

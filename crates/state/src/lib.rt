@@ -1,4 +1,4 @@
-// What is held, by value, and the list operations with their refusals.
+// What is held, by value, and the changes to it with their refusals.
 ghost use mathlib.Core.Path.{_≡_};
 ghost use mathlib.Core.List.{_++_};
 ghost use Prim.Native.Nat.{_+_, _-_, _≤_, _<_};
@@ -10,7 +10,7 @@ ghost use Rattle.terms.specs.Held.{withSettings, withCounting, withHole, isMark
 ghost use Rattle.terms.specs.Places.{Marks-named};
 ghost use Rattle.terms.specs.Lists.{limits};
 ghost use Rattle.refusals.specs.Refusals.{tested as testedBy};
-ghost use Rattle.state.specs.State.{Counts-in, heldOf, emptyState, Listed-as};
+ghost use Rattle.state.specs.State.{Counts-in, heldOf, emptyState, Change-as};
 ghost use Rattle.state.specs.Changes.{ruleTests, roomTests, putTests, takeTests, countTests, confineTests, addRule, putMark, takeMark};
 ghost use Rattle.state.specs.Holding.{Holds};
 use terms::Counting;
@@ -32,8 +32,8 @@ pub struct State {
     pub settings: Settings,
 }
 
-// What a list operation answers: what its tests came to, and the state then. (The state holds arrays, so it stands beside the enum.)
-pub struct Listed {
+// What a change answers: what its tests came to, and the state then. (The state holds arrays, so it stands beside the enum.)
+pub struct Change {
     pub tested: Tested,
     pub state: State,
 }
@@ -99,17 +99,17 @@ impl State {
     }
 
     // The rule at the end of its list.
-    pub fn with_rule(self, rule: Rule) -> Listed
+    pub fn with_rule(self, rule: Rule) -> Change
         requires { ⌜ Counts-in self ⌝ }
-        ensures { λ r. ⌜ Listed-as (ruleTests (heldOf self) rule) (heldOf self) (addRule (heldOf self) rule) r ⌝ }
+        ensures { λ r. ⌜ Change-as (ruleTests (heldOf self) rule) (heldOf self) (addRule (heldOf self) rule) r ⌝ }
     {
         let tested = self.rule_tested(rule);
         match tested {
-            Tested::Passed => Listed {
+            Tested::Passed => Change {
                 tested,
                 state: self.add_rule(rule),
             },
-            Tested::Refused(_) => Listed {
+            Tested::Refused(_) => Change {
                 tested,
                 state: self,
             },
@@ -167,19 +167,19 @@ impl State {
     }
 
     // The mark at the end of its list.
-    pub fn put(self, mark: Mark) -> Listed
+    pub fn put(self, mark: Mark) -> Change
         requires { ⌜ Counts-in self ⌝ }
         requires { ⌜ Marks-named (self .marks) (self .«mark_count») ⌝ }
         requires { ⌜ T (isMark mark) ⌝ }
-        ensures { λ r. ⌜ Listed-as (putTests (heldOf self) mark) (heldOf self) (putMark (heldOf self) mark) r ⌝ }
+        ensures { λ r. ⌜ Change-as (putTests (heldOf self) mark) (heldOf self) (putMark (heldOf self) mark) r ⌝ }
     {
         let tested = self.put_tested(mark);
         match tested {
-            Tested::Passed => Listed {
+            Tested::Passed => Change {
                 tested,
                 state: self.add_mark(mark),
             },
-            Tested::Refused(_) => Listed {
+            Tested::Refused(_) => Change {
                 tested,
                 state: self,
             },
@@ -187,11 +187,11 @@ impl State {
     }
 
     // The mark away from its list.
-    pub fn take(self, mark: Mark) -> Listed
+    pub fn take(self, mark: Mark) -> Change
         requires { ⌜ Counts-in self ⌝ }
         requires { ⌜ Marks-named (self .marks) (self .«mark_count») ⌝ }
         requires { ⌜ T (isMark mark) ⌝ }
-        ensures { λ r. ⌜ Listed-as (takeTests (heldOf self) mark) (heldOf self) (takeMark (heldOf self) mark) r ⌝ }
+        ensures { λ r. ⌜ Change-as (takeTests (heldOf self) mark) (heldOf self) (takeMark (heldOf self) mark) r ⌝ }
     {
         let count = self.mark_count;
         let held = self.marks;
@@ -201,12 +201,12 @@ impl State {
             let mut state = self;
             state.marks = marks;
             state.mark_count = count - 1;
-            return Listed {
+            return Change {
                 tested: Tested::Passed,
                 state,
             };
         }
-        Listed {
+        Change {
             tested: Tested::Refused(10),
             state: self,
         }
@@ -223,13 +223,13 @@ impl State {
     }
 
     // The counting set, where no rule is held: rules are written for one.
-    pub fn count(self, counting: Counting) -> Listed
+    pub fn count(self, counting: Counting) -> Change
         requires { ⌜ Counts-in self ⌝ }
-        ensures { λ r. ⌜ Listed-as (countTests (heldOf self)) (heldOf self) (withCounting (heldOf self) counting) r ⌝ }
+        ensures { λ r. ⌜ Change-as (countTests (heldOf self)) (heldOf self) (withCounting (heldOf self) counting) r ⌝ }
     {
         let rules_held = self.rule_count;
         if 0 < rules_held {
-            return Listed {
+            return Change {
                 tested: Tested::Refused(15),
                 state: self,
             };
@@ -237,20 +237,20 @@ impl State {
         let held = self.settings;
         let hole = held.hole;
         let settings = Settings { counting, hole };
-        Listed {
+        Change {
             tested: Tested::Passed,
             state: self.with_settings(settings),
         }
     }
 
     // The hole set, where no mark is held: none may lie outside it.
-    pub fn confine(self, top: i32, bottom: i32) -> Listed
+    pub fn confine(self, top: i32, bottom: i32) -> Change
         requires { ⌜ Counts-in self ⌝ }
-        ensures { λ r. ⌜ Listed-as (confineTests (heldOf self)) (heldOf self) (withHole (heldOf self) (Bored.Part top bottom)) r ⌝ }
+        ensures { λ r. ⌜ Change-as (confineTests (heldOf self)) (heldOf self) (withHole (heldOf self) (Bored.Part top bottom)) r ⌝ }
     {
         let marks_held = self.mark_count;
         if 0 < marks_held {
-            return Listed {
+            return Change {
                 tested: Tested::Refused(17),
                 state: self,
             };
@@ -262,7 +262,7 @@ impl State {
             counting,
             hole: bored,
         };
-        Listed {
+        Change {
             tested: Tested::Passed,
             state: self.with_settings(settings),
         }

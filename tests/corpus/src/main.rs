@@ -44,7 +44,7 @@ fn size(number: u64) -> Size {
             false => dice.pick(&[20, 50, 80]),
         },
         countings,
-        holes: number >= HOLES && (number < PADS || number % 2 == 0),
+        holes: number >= HOLES && (number < PADS || number.is_multiple_of(2)),
         wells: 0,
     };
     match number < PADS {

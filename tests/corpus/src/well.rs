@@ -30,8 +30,8 @@ const TOUCHES: u8 = 0;
 const FEEDS: u8 = 1;
 const SEALS: u8 = 2;
 
-/// What joins with its like, and the n of its rule.
-const JOINED: [(u8, u32); 5] = [
+/// What is filled between it and its like, and the n of its rule.
+const FILLED: [(u8, u32); 5] = [
     (SAND, 301),
     (SHALE, 501),
     (LIME, 401),
@@ -71,7 +71,7 @@ pub struct Well {
 }
 
 fn common_rules() -> Vec<Record> {
-    let mut rules = JOINED
+    let mut rules = FILLED
         .map(|(seen, n)| label(within(n), seen, seen))
         .to_vec();
     rules.extend([
@@ -210,7 +210,7 @@ impl Well {
     /// The same seen again as far down as its rule reaches, or one more or less, and asked about
     /// between the two: the counting decides.
     fn see_again(&mut self) {
-        let (seen, n) = self.dice.pick(&JOINED);
+        let (seen, n) = self.dice.pick(&FILLED);
         let (fact, first) = (has(self.item(), seen), self.depth);
         self.depth += i64::from(n) + self.dice.pick(&[-1, 0, 1]);
         let both = [first, self.depth].map(|depth| Mark::point(fact, depth as i32));

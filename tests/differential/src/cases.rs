@@ -52,6 +52,11 @@ impl Seen {
         matches!(self.record, Some(Record::Take(mark)) if self.answer == answer && fits(mark))
     }
 
+    /// A question at a depth that fits.
+    pub fn query(&self, fits: impl Fn(Fact, i64) -> bool) -> bool {
+        matches!(self.record, Some(Record::Query(fact, depth)) if fits(fact, depth))
+    }
+
     /// A put of a stretch while so many depths are marked, with that many new ends.
     fn put_at(&self, answer: Answer, marked: usize, new: usize) -> bool {
         self.put(answer, |mark| {
@@ -75,11 +80,12 @@ impl Seen {
     }
 
     fn question_inside(&self) -> bool {
-        let Some(Record::Query(fact, depth)) = self.record else {
-            return false;
+        let inside = |depth, mark: Mark| {
+            let [top, bottom] = mark.ends().map(i64::from);
+            top < depth && depth < bottom
         };
-        let inside = |mark: Mark| i64::from(mark.top) < depth && depth < i64::from(mark.bottom);
-        self.answer == Answer::Yes && self.holds(fact, inside)
+        let held = |fact, depth| self.holds(fact, |mark| inside(depth, mark));
+        self.answer == Answer::Yes && self.query(held)
     }
 
     /// A point that is not held at the top of a stretch that is.
@@ -115,31 +121,26 @@ impl Seen {
     /// A question by that counting, with that answer, about what a held WITHIN n concludes between
     /// two held marks that are n and so many more apart.
     fn between(&self, counting: Counting, answer: Answer, more: i64) -> bool {
-        let Some(Record::Query(fact, depth)) = self.record else {
-            return false;
-        };
-        let concluding = || near_starts(&self.shown).filter(|start| start.concluded == fact);
-        let gap = |j: Start, k: Start| {
+        let gap = |depth, j: Start, k: Start| {
             let (bottom, top) = (i64::from(j.mark.bottom), i64::from(k.mark.top));
             let same = j.mark.fact == k.mark.fact && j.op == k.op;
             same && bottom < depth && depth < top && top - bottom == i64::from(j.op.n) + more
         };
-        let mut firsts = concluding();
-        self.shown.counting == counting
-            && self.answer == answer
-            && firsts.any(|j| concluding().any(|k| gap(j, k)))
+        let in_gap = |fact, depth| {
+            let concluding = || near_starts(&self.shown).filter(|start| start.concluded == fact);
+            let mut firsts = concluding();
+            firsts.any(|j| concluding().any(|k| gap(depth, j, k)))
+        };
+        self.shown.counting == counting && self.answer == answer && self.query(in_gap)
     }
 
     /// Whether what is asked holds by that counting.
     fn holds_by(&self, counting: Counting) -> bool {
-        let Some(Record::Query(fact, depth)) = self.record else {
-            return false;
-        };
         let held = Held {
             counting,
             ..self.shown.clone()
         };
-        Collection::least(&held).of(fact).has(depth)
+        self.query(|fact, depth| Collection::least(&held).of(fact).has(depth))
     }
 
     /// A block that was not turned away.
@@ -194,10 +195,14 @@ fn reversed(mark: Mark) -> bool {
     mark.top > mark.bottom
 }
 
+pub fn out_of_range(end: i32) -> bool {
+    !(SHALLOWEST..=DEEPEST).contains(&end)
+}
+
 /// How many ends are out of range.
 fn ends_out(mark: Mark) -> usize {
-    let out = |end: &i32| !(SHALLOWEST..=DEEPEST).contains(end);
-    mark.ends().into_iter().filter(out).count()
+    let ends = mark.ends().into_iter();
+    ends.filter(|&end| out_of_range(end)).count()
 }
 
 fn doubled(held: &Held) -> bool {

@@ -17,13 +17,6 @@ pub const WHOLE: Lent = Lent {
     spans: 256,
 };
 
-const NOTHING: Lent = Lent {
-    block: 0,
-    labels: 0,
-    links: 0,
-    spans: 0,
-};
-
 fn random_bytes(dice: &mut Dice, count: u64) -> Vec<u8> {
     (0..count).map(|_| dice.word() as u8).collect()
 }
@@ -71,7 +64,7 @@ pub fn lengths(source: &mut Source) -> Lent {
     let which = dice.below(4) as usize;
     let length = dice.pick(&[0, 1, enough[which] / 2, enough[which] - 1]);
     match which {
-        _ if dice.percent(10) => lent = NOTHING,
+        _ if dice.percent(10) => lent = Lent::NOTHING,
         0 => lent.block = length,
         1 => lent.labels = length,
         2 => lent.links = length,

@@ -55,7 +55,10 @@ impl Source {
             concluded,
         } = self.dice.pick(&all);
         let distance = op.n as i32 + self.dice.pick(&[-1, 0, 1]);
-        let more = self.dice.pick(&[0, 0, 1, 5]);
+        let more = match self.dice.percent(self.plan.stretches) {
+            true => self.dice.pick(&[1, 5]),
+            false => 0,
+        };
         let (above, below) = (mark.top - distance, mark.bottom + distance);
         let ends = self
             .dice

@@ -1,7 +1,7 @@
 //! Cases with holes that a run has to meet, each by its name.
 
-use crate::cases::{marked, ruled, Case, Seen, DONE};
-use crate::hole_seen::{above, below, bottom, of_one_depth, out_of_range, outside, past, top};
+use crate::cases::{marked, out_of_range, ruled, Case, Seen, DONE};
+use crate::hole_seen::{above, below, bottom, of_one_depth, outside, past, top};
 use model::tables::PIECES;
 use model::terms::*;
 
@@ -105,7 +105,7 @@ pub const HOLE_CASES: [Case; 93] = [
         s.put_in(R16, |_, mark| mark.is_point())
     }),
     ("16 for a link", |s| {
-        s.put_in(R16, |_, mark| matches!(mark.fact, Fact::Link { .. }))
+        s.put_in(R16, |_, mark| mark.fact.is_link())
     }),
     ("16 with 256 marks", |s| {
         s.shown.marks.len() == MAX_MARKS && s.put_in(R16, |_, _| true)

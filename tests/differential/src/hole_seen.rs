@@ -30,8 +30,8 @@ pub fn of_one_depth(hole: Hole) -> bool {
     hole.top == hole.bottom
 }
 
-pub fn out_of_range(end: i32) -> bool {
-    !(SHALLOWEST..=DEEPEST).contains(&end)
+fn is_every(fact: Fact) -> bool {
+    matches!(fact, Fact::Label { label: EVERY, .. })
 }
 
 /// Whether a mark reaches past the top, and past the bottom.
@@ -82,24 +82,20 @@ impl Seen {
 
     /// A question with a hole and that answer, about a fact at a depth that fits.
     pub fn asked(&self, answer: Answer, fits: impl Fn(Hole, Fact, i64) -> bool) -> bool {
-        let Some(Record::Query(fact, depth)) = self.record else {
-            return false;
-        };
-        self.answer == answer && self.hole(|hole| fits(hole, fact, depth))
+        let in_hole = |fact, depth| self.hole(|hole| fits(hole, fact, depth));
+        self.answer == answer && self.query(in_hole)
     }
 
     pub fn every_at(&self, answer: Answer, depth: Depth) -> bool {
         self.asked(answer, |hole, fact, asked| {
-            let every = matches!(fact, Fact::Label { label: EVERY, .. });
-            every && asked == depth(hole)
+            is_every(fact) && asked == depth(hole)
         })
     }
 
     /// Asked about EVERY so far away that the depth doesn't fit 32 bits.
     pub fn every_far(&self, fits: fn(i64) -> bool) -> bool {
         self.asked(Answer::No, |_, fact, asked| {
-            let every = matches!(fact, Fact::Label { label: EVERY, .. });
-            every && i32::try_from(asked).is_err() && fits(asked)
+            is_every(fact) && i32::try_from(asked).is_err() && fits(asked)
         })
     }
 
@@ -123,7 +119,7 @@ impl Seen {
 
     /// The same about links, by whichever operator reaches there.
     pub fn link_at(&self, answer: Answer, depth: Depth, codes: [u8; 2]) -> bool {
-        let link = self.asked(answer, |_, fact, _| matches!(fact, Fact::Link { .. }));
+        let link = self.asked(answer, |_, fact, _| fact.is_link());
         link && codes
             .iter()
             .any(|&code| self.operator_at(code, answer, depth))

@@ -65,8 +65,8 @@ impl Source {
     pub fn brink(&mut self, held: &Held) -> Option<Record> {
         let hole = held.hole?;
         Some(match self.dice.below(20) {
-            0..=4 => Record::Put(self.mark_at(hole)),
-            5 | 6 => Record::Take(self.mark_at(hole)),
+            0..=4 => Record::Put(self.mark_at(hole, held)),
+            5 | 6 => Record::Take(self.mark_at(hole, held)),
             7 | 8 => {
                 let fact = self.asked_fact(held);
                 self.question_at_ends(hole, fact)
@@ -84,8 +84,9 @@ impl Source {
         })
     }
 
-    /// Ends at the hole's, one past them or farther, also the wrong way round or out of range.
-    fn mark_at(&mut self, hole: Hole) -> Mark {
+    /// Ends at the hole's, one past them or farther, also the wrong way round or out of range; often
+    /// of what is marked already, so that it may hold at both ends.
+    fn mark_at(&mut self, hole: Hole, held: &Held) -> Mark {
         let Hole { top, bottom } = hole;
         let inside = self.dice.between(top.into(), bottom.into()) as i32;
         let more = self.dice.between(0, 6) as i32;
@@ -112,8 +113,11 @@ impl Source {
             (SHALLOWEST - 1, inside),
         ];
         let (top, bottom) = self.dice.pick(&ends);
-        let fact = self.fact(1);
-        Mark { fact, top, bottom }
+        let fact = self.mark_or_held(held, 40).fact;
+        match self.plan.stretches {
+            0 => Mark::point(fact, top),
+            _ => Mark { fact, top, bottom },
+        }
     }
 
     /// At an end, one outside or far away; cut to 32 bits, some of these lie inside.

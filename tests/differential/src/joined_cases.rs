@@ -5,18 +5,14 @@ use model::terms::*;
 
 pub type JoinedCase = (&'static str, fn(&Asked) -> bool);
 
-fn is_link(fact: Fact) -> bool {
-    matches!(fact, Fact::Link { .. })
-}
-
 impl Asked {
     /// A label question, with that answer, beside a bad item.
     fn label_beside(&self, answer: Answer) -> bool {
-        self.beside() && !self.is_link() && self.answer == answer && self.depth().is_some()
+        self.beside() && !self.fact.is_link() && self.answer == answer && self.depth().is_some()
     }
 
     fn link_beside(&self, answer: Answer) -> bool {
-        self.beside() && self.is_link() && self.answer == answer
+        self.beside() && self.fact.is_link() && self.answer == answer
     }
 
     /// Spans, asked in that way, so many that fit, beside a bad item.
@@ -117,7 +113,7 @@ impl Asked {
     }
 
     fn marked_elsewhere(&self, fact: Fact) -> bool {
-        !is_link(fact) && !self.fact.items().contains(&fact.items()[0])
+        !fact.is_link() && !self.fact.items().contains(&fact.items()[0])
     }
 }
 
@@ -222,7 +218,7 @@ pub const JOINED_CASES: [JoinedCase; 57] = [
         a.hit_link(|[from, to], _| a.links(from, to).is_some())
     }),
     ("link to itself in a bad well", |a| {
-        a.is_link() && a.hit(|_, _| true)
+        a.fact.is_link() && a.hit(|_, _| true)
     }),
     ("joined at another depth", Asked::joined_at_another_depth),
     ("NEVER at another depth", Asked::never_at_another_depth),
@@ -232,8 +228,8 @@ pub const JOINED_CASES: [JoinedCase; 57] = [
     }),
     ("joined by another kind", Asked::by_another_kind),
     ("chain of two kinds", Asked::by_two_kinds),
-    ("come with a link", |a| a.came_with(is_link)),
-    ("gone with a link", |a| a.gone_with(is_link)),
+    ("come with a link", |a| a.came_with(Fact::is_link)),
+    ("gone with a link", |a| a.gone_with(Fact::is_link)),
     ("kept by another link", Asked::kept_by_another_link),
     ("come with a mark elsewhere", |a| {
         a.came_with(|fact| a.marked_elsewhere(fact))

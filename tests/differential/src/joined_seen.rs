@@ -1,6 +1,6 @@
 //! What an answered question is seen to be, for the cases of `joined_cases.rs`.
 
-use model::block::read;
+use crate::wells::clash_of;
 use model::derive::Collection;
 use model::held::Held;
 use model::tables::representatives;
@@ -26,14 +26,6 @@ pub struct Asked {
     pub last: Option<Record>,
 }
 
-fn concludes_never(rule: &Rule) -> bool {
-    match *rule {
-        Rule::Label { b: label, .. } | Rule::Via { b: label, .. } => label == NEVER,
-        Rule::Both { c, .. } => c == NEVER,
-        Rule::LinkRule { .. } => false,
-    }
-}
-
 /// How many steps at least lead from one item to the other, if any do.
 fn steps(from: u8, to: u8, step: impl Fn(u8, u8) -> bool) -> Option<usize> {
     let mut reached = BTreeSet::from([from]);
@@ -47,14 +39,15 @@ fn steps(from: u8, to: u8, step: impl Fn(u8, u8) -> bool) -> Option<usize> {
 }
 
 impl Asked {
+    /// None where no held rule concludes NEVER.
     pub fn new(
-        block: &[u8],
+        held: Held,
         (fact, by): (Fact, By),
         answer: Answer,
         last: Option<Record>,
     ) -> Option<Asked> {
-        let held = read(block).filter(|held| held.rules.iter().any(concludes_never))?;
-        Some(Asked {
+        let clashes = held.rules.iter().any(|rule| clash_of(rule).is_some());
+        clashes.then(|| Asked {
             found: Collection::least(&held),
             held,
             fact,
@@ -74,10 +67,6 @@ impl Asked {
     pub fn ends(&self) -> Option<[u8; 2]> {
         let ends = self.fact.items();
         (ends[0] != ends[1]).then_some(ends)
-    }
-
-    pub fn is_link(&self) -> bool {
-        matches!(self.fact, Fact::Link { .. })
     }
 
     pub fn depth(&self) -> Option<i64> {

@@ -1,7 +1,9 @@
 //! Runs random streams of calls through the archive and the model and compares them.
-//! Arguments: seconds to run (default 100) and the first seed (default 1).
+//! Arguments: seconds to run (default 100), the first seed (default 1) and how often each refusal
+//! and each combination has to come up at least (default 1).
 
 mod cases;
+mod combined;
 mod damage;
 mod distance;
 mod ends;
@@ -27,7 +29,7 @@ fn argument(place: usize, default: u64) -> u64 {
 }
 
 fn main() -> ExitCode {
-    let (seconds, first_seed) = (argument(1, 100), argument(2, 1));
+    let (seconds, first_seed, least) = (argument(1, 100), argument(2, 1), argument(3, 1));
     let (start, limit) = (Instant::now(), Duration::from_secs(seconds));
     let mut tally = Tally::new();
     let seeds = (first_seed..).take_while(|_| start.elapsed() < limit);
@@ -38,9 +40,9 @@ fn main() -> ExitCode {
         }
     }
     tally.print();
-    let missing = tally.missing();
-    if !missing.is_empty() && seconds >= 10 {
-        println!("refusals and cases that never came up: {missing:?}");
+    let rare = tally.rare(least);
+    if !rare.is_empty() && seconds >= 10 {
+        println!("too rare: {rare}");
         return ExitCode::FAILURE;
     }
     ExitCode::SUCCESS

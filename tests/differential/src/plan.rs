@@ -159,16 +159,23 @@ fn switching(dice: &mut Dice, plan: Plan) -> Plan {
     }
 }
 
-/// Few names, so that the distance between two marks decides a question.
-fn counted(plan: Plan) -> Plan {
+/// Few names and marks, so that a rule meets the marks that are asked about.
+fn few(plan: Plan) -> Plan {
     Plan {
         items: 2,
         labels: 4,
         kinds: 1,
-        rules: 1 + plan.rules / 4,
         marks: 1 + plan.marks / 4,
-        apart: 70,
         ..plan
+    }
+}
+
+/// The distance between two marks decides most questions.
+fn counted(plan: Plan) -> Plan {
+    Plan {
+        rules: 1 + plan.rules / 4,
+        apart: 70,
+        ..few(plan)
     }
 }
 
@@ -185,19 +192,15 @@ fn digging(dice: &mut Dice, plan: Plan) -> Plan {
     }
 }
 
-/// Few names and a hole, so that its ends decide most questions and marks.
+/// A hole whose ends decide most questions and marks.
 fn brinks(dice: &mut Dice, plan: Plan) -> Plan {
     Plan {
-        items: 2,
-        labels: 4,
-        kinds: 1,
         rules: 2 + plan.rules / 2,
-        marks: 1 + plan.marks / 4,
         hole: 100,
         brinks: 70,
         reversed: dice.pick(&[4, 25]),
         edge: dice.pick(&[0, 2, 10]),
-        ..plan
+        ..few(plan)
     }
 }
 
@@ -218,8 +221,8 @@ fn crowded(dice: &mut Dice, plan: Plan) -> Plan {
 }
 
 /// Several wells in a section, with few rules, so that some are bad and others are not.
-fn pads(dice: &mut Dice, plan: Plan) -> Plan {
-    let plan = Plan {
+fn wells(dice: &mut Dice, plan: Plan) -> Plan {
+    Plan {
         calls: 60,
         items: dice.pick(&[6, 10, 16, 16]),
         kinds: dice.pick(&[1, 2, 3, 8]),
@@ -230,10 +233,15 @@ fn pads(dice: &mut Dice, plan: Plan) -> Plan {
         chain: dice.pick(&[0, 2, 4, 8]),
         never: 0,
         ..plan
-    };
+    }
+}
+
+/// The same, now and then as a single chain, or with all places taken.
+fn pads(dice: &mut Dice, plan: Plan) -> Plan {
+    let plan = wells(dice, plan);
     match dice.below(8) {
         // Nothing but one chain through all items.
-        0 | 1 => Plan {
+        0..=2 => Plan {
             marks: 0,
             chain: 15,
             reversed: 0,
@@ -241,7 +249,7 @@ fn pads(dice: &mut Dice, plan: Plan) -> Plan {
             ..plan
         },
         // All places taken, with few links and few bad items.
-        2 => Plan {
+        3 => Plan {
             calls: 20,
             items: 16,
             labels: 60,
@@ -256,9 +264,25 @@ fn pads(dice: &mut Dice, plan: Plan) -> Plan {
     }
 }
 
+/// Wells with points alone as often as with stretches, in a hole as often as not, and with rules
+/// enough that the counting matters: each combination comes up. The old counting does elsewhere.
+fn combined(dice: &mut Dice, plan: Plan) -> Plan {
+    let stretches = dice.pick(&[0, 60]);
+    Plan {
+        rules: 6 + dice.below(8),
+        stretches,
+        near: plan.near.min(stretches),
+        new: 65,
+        hole: 50,
+        switches: 0,
+        digs: 0,
+        ..wells(dice, plan)
+    }
+}
+
 pub fn plan(dice: &mut Dice) -> Plan {
     let plan = small(dice);
-    match dice.below(37) {
+    match dice.below(47) {
         0..=1 => plan,
         2 => points(plan),
         3 | 4 => Plan {
@@ -290,6 +314,7 @@ pub fn plan(dice: &mut Dice) -> Plan {
         25..=28 => brinks(dice, plan),
         29 | 30 => crowded(dice, plan),
         31..=35 => pads(dice, plan),
+        36..=45 => combined(dice, plan),
         _ => full(dice, plan),
     }
 }

@@ -7,7 +7,7 @@ use crate::plan::plan;
 use crate::source::Source;
 use crate::tally::Tally;
 use dice::Dice;
-use model::block::{decode, encode, SIZE};
+use model::block::{decode, encode, read, SIZE};
 use model::frame;
 use model::held::Held;
 use model::service::{self, Lent, Memory};
@@ -115,8 +115,14 @@ impl Stream {
             tally.see(&Seen::new(before, input, answer, &self.model.spans));
         }
         let refused = matches!(answer, Answer::Refused(_));
-        let question = call.question().filter(|_| !refused);
-        let asked = question.and_then(|asked| Asked::new(before, asked, answer, self.last));
+        let Some(question) = call.question().filter(|_| !refused) else {
+            return;
+        };
+        let held = read(before).expect("a good block");
+        tally
+            .combined
+            .see(&held, &self.model.links, question.0, answer);
+        let asked = Asked::new(held, question, answer, self.last);
         asked.iter().for_each(|asked| tally.see_question(asked));
     }
 

@@ -1,6 +1,7 @@
-//! How often each answer, each refusal and each case came up.
+//! How often each answer, each refusal, each case and each combination came up.
 
 use crate::cases::{Case, Seen, CASES};
+use crate::combined::Combined;
 use crate::hole_cases::HOLE_CASES;
 use crate::joined_cases::JOINED_CASES;
 use crate::joined_seen::Asked;
@@ -26,6 +27,7 @@ pub struct Tally {
     refusals: [u64; REFUSAL_PLACES],
     cases: Vec<u64>,
     joined: Vec<u64>,
+    pub combined: Combined,
 }
 
 fn all_cases() -> impl Iterator<Item = &'static Case> {
@@ -33,7 +35,7 @@ fn all_cases() -> impl Iterator<Item = &'static Case> {
 }
 
 /// Names with their numbers, parted by commas.
-fn listed<N: std::fmt::Display>(pairs: impl Iterator<Item = (N, u64)>) -> String {
+pub fn listed<N: std::fmt::Display>(pairs: impl Iterator<Item = (N, u64)>) -> String {
     let pairs: Vec<_> = pairs.map(|(name, n)| format!("{name} {n}")).collect();
     pairs.join(", ")
 }
@@ -88,11 +90,15 @@ impl Tally {
         println!("answers: {}", listed(NAMES.into_iter().zip(self.answers)));
         println!("refusals: {}", listed(self.refusals()));
         println!("cases: {}", listed(self.cases()));
+        self.combined.print();
     }
 
-    /// The refusals and cases that never came up.
-    pub fn missing(&self) -> Vec<String> {
-        let all = self.refusals().chain(self.cases());
-        all.filter(|(_, n)| *n == 0).map(|(name, _)| name).collect()
+    /// The refusals and combinations that came up less often than that, and the cases that never
+    /// did.
+    pub fn rare(&self, least: u64) -> String {
+        let counted = self.refusals().chain(self.combined.counts());
+        let seldom = counted.filter(|&(_, n)| n < least);
+        let never = self.cases().filter(|&(_, n)| n == 0);
+        listed(seldom.chain(never))
     }
 }

@@ -6,16 +6,12 @@ use model::held::Held;
 use model::terms::*;
 
 /// The labels on the left of a rule that concludes NEVER.
-fn clash_of(rule: &Rule) -> Option<[u8; 2]> {
+pub fn clash_of(rule: &Rule) -> Option<[u8; 2]> {
     match *rule {
         Rule::Label { a, b: NEVER, .. } | Rule::Via { a, b: NEVER, .. } => Some([a, a]),
         Rule::Both { a, b, c: NEVER } => Some([a, b]),
         _ => None,
     }
-}
-
-fn is_link(mark: &Mark) -> bool {
-    matches!(mark.fact, Fact::Link { .. })
 }
 
 impl Source {
@@ -110,7 +106,10 @@ impl Source {
             Fact::Link { .. } => false,
         };
         let links = self.dice.percent(70);
-        let fits = |mark: &&Mark| if links { is_link(mark) } else { clashing(mark) };
+        let fits = |mark: &&Mark| match links {
+            true => mark.fact.is_link(),
+            false => clashing(mark),
+        };
         let marks: Vec<Mark> = held.marks.iter().filter(fits).copied().collect();
         (!marks.is_empty()).then(|| Record::Take(self.dice.pick(&marks)))
     }
@@ -130,10 +129,10 @@ impl Source {
             kind,
             to: other,
         };
-        match self.dice.below(8) {
+        match self.dice.below(10) {
             0..=2 => Record::Query(label_fact, depth),
             3 | 4 => Record::Query(link_fact, depth),
-            5 => self.question_at(held),
+            5..=7 => self.question_at(held),
             _ => Record::Spans { item: one, label },
         }
     }

@@ -1,6 +1,6 @@
 //! The state block as docs/STATE.md lays it out.
 
-use crate::frame::{four, label_fact, link_fact, stretch};
+use crate::frame::{ends_bytes, four, hole, label_fact, link_fact, stretch};
 use crate::held::Held;
 use crate::terms::{Counting, Fact, Hole, Mark, Operator, Rule, MAX_MARKS, MAX_RULES};
 
@@ -29,14 +29,14 @@ pub fn mark_place(mark: &Mark) -> Vec<u8> {
         Fact::Label { item, label } => [6, item, label, 0],
         Fact::Link { from, kind, to } => [7, from, kind, to],
     };
-    [head, mark.top.to_le_bytes(), mark.bottom.to_le_bytes()].concat()
+    [&head[..], &ends_bytes(mark.ends())].concat()
 }
 
 /// Bytes 6 to 15: whether there is a hole, a zero byte, and its ends.
 pub fn hole_bytes(hole: Option<Hole>) -> Vec<u8> {
     let there = u8::from(hole.is_some());
     let ends = hole.map_or([0, 0], |hole| hole.ends());
-    [&[there, 0][..], &ends.map(i32::to_le_bytes).concat()].concat()
+    [&[there, 0][..], &ends_bytes(ends)].concat()
 }
 
 pub fn encode(held: &Held) -> Vec<u8> {
@@ -80,11 +80,7 @@ fn read_mark(place: &[u8]) -> Option<Mark> {
 }
 
 fn read_hole(block: &[u8]) -> Option<Hole> {
-    let end = |at| i32::from_le_bytes(four(block, at));
-    (block[HOLE_AT] != 0).then(|| Hole {
-        top: end(HOLE_ENDS_AT),
-        bottom: end(HOLE_ENDS_AT + 4),
-    })
+    (block[HOLE_AT] != 0).then(|| hole(&block[HOLE_ENDS_AT..]))
 }
 
 /// The lists as the places show them; none where a count or a place's kind is none. Any counting

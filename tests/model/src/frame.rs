@@ -83,20 +83,26 @@ fn point(fact: Fact, depth: &[u8]) -> Mark {
     Mark::point(fact, i32::from_le_bytes(four(depth, 0)))
 }
 
-/// A mark whose top and bottom stand behind its names, as in a place of the block.
-pub fn stretch(fact: Fact, ends: &[u8]) -> Mark {
-    Mark {
-        fact,
-        top: i32::from_le_bytes(four(ends, 0)),
-        bottom: i32::from_le_bytes(four(ends, 4)),
-    }
+/// The top and the bottom that the bytes start with.
+fn ends(bytes: &[u8]) -> [i32; 2] {
+    [0, 4].map(|at| i32::from_le_bytes(four(bytes, at)))
 }
 
-fn hole(body: &[u8]) -> Hole {
-    Hole {
-        top: i32::from_le_bytes(four(body, 0)),
-        bottom: i32::from_le_bytes(four(body, 4)),
-    }
+/// The bytes of a top and a bottom.
+pub fn ends_bytes(ends: [i32; 2]) -> Vec<u8> {
+    ends.map(i32::to_le_bytes).concat()
+}
+
+/// A mark whose top and bottom stand behind its names, as in a place of the block.
+pub fn stretch(fact: Fact, bytes: &[u8]) -> Mark {
+    let [top, bottom] = ends(bytes);
+    Mark { fact, top, bottom }
+}
+
+/// A hole whose ends the bytes start with, as in the block.
+pub fn hole(bytes: &[u8]) -> Hole {
+    let [top, bottom] = ends(bytes);
+    Hole { top, bottom }
 }
 
 fn rule(kind: u16, body: &[u8]) -> Rule {
@@ -180,8 +186,7 @@ fn point_bytes(label_kind: u16, mark: &Mark) -> Vec<u8> {
 }
 
 fn stretch_bytes(label_kind: u16, mark: &Mark) -> Vec<u8> {
-    let ends = mark.ends().map(i32::to_le_bytes);
-    fact_bytes(label_kind, mark.fact, &ends.concat())
+    fact_bytes(label_kind, mark.fact, &ends_bytes(mark.ends()))
 }
 
 /// The record as bytes: a mark with both ends equal by the kinds 6 to 9, another by 13 to 16.
@@ -195,7 +200,7 @@ pub fn bytes(record: &Record) -> Vec<u8> {
         Record::Query(fact, depth) => fact_bytes(10, *fact, &depth.to_le_bytes()),
         Record::Spans { item, label } => framed(12, &[*item, *label]),
         Record::Counting(value) => framed(17, &[*value]),
-        Record::Hole(hole) => framed(18, &hole.ends().map(i32::to_le_bytes).concat()),
+        Record::Hole(hole) => framed(18, &ends_bytes(hole.ends())),
     }
 }
 

@@ -39,6 +39,10 @@ pub fn answers_to(records: &[Record]) -> Vec<String> {
     answers(&records.iter().flat_map(bytes).collect::<Vec<u8>>())
 }
 
+pub fn last_answer(records: &[Record]) -> String {
+    answers_to(records).pop().expect("a record")
+}
+
 fn span_text(memory: &Memory, answer: Answer) -> String {
     let Answer::Spans(count) = answer else {
         return String::new();

@@ -48,6 +48,13 @@ impl Lent {
         spans: SPAN_NUMBERS,
     };
 
+    pub const NOTHING: Lent = Lent {
+        block: 0,
+        labels: 0,
+        links: 0,
+        spans: 0,
+    };
+
     fn too_short(&self) -> bool {
         self.block < block::SIZE
             || self.labels < LABEL_ENTRIES

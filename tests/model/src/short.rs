@@ -91,6 +91,26 @@ pub fn after(records: &[Record]) -> Memory {
     memory
 }
 
+/// For where any one rule is held.
+pub const RULE: Record = Record::Rule(Rule::Both { a: 1, b: 2, c: 3 });
+
+/// By these every item has NEVER at every depth.
+pub fn never_everywhere() -> [Record; 2] {
+    [label(within(1), EVERY, 1), label(within(1), 1, NEVER)]
+}
+
+/// Links 5 apart, which a rule fills by the new counting alone, and what follows from them.
+pub fn links_5_apart(value: u8) -> [Record; 6] {
+    [
+        counting(value),
+        link_rule(within(5), 0, 1),
+        via(1, EVERY, 4),
+        label(within(10), 4, 5),
+        put(link(0, 0, 1), 10),
+        put(link(0, 0, 1), 15),
+    ]
+}
+
 /// Its last record puts a mark again.
 pub fn worked_example() -> [Record; 11] {
     [

@@ -84,6 +84,15 @@ pub enum Rule {
     Via { r: u8, a: u8, b: u8 },
 }
 
+impl Rule {
+    pub fn operator(self) -> Option<Operator> {
+        match self {
+            Rule::Label { op, .. } | Rule::LinkRule { op, .. } => Some(op),
+            Rule::Both { .. } | Rule::Via { .. } => None,
+        }
+    }
+}
+
 /// What a mark or a question speaks of, without its depth.
 #[derive(Clone, Copy, Debug, PartialEq, Eq, Hash)]
 pub enum Fact {
@@ -98,6 +107,10 @@ impl Fact {
             Fact::Label { item, .. } => [item, item],
             Fact::Link { from, to, .. } => [from, to],
         }
+    }
+
+    pub fn is_link(self) -> bool {
+        matches!(self, Fact::Link { .. })
     }
 }
 
@@ -185,7 +198,7 @@ impl Record {
     /// An operator's code and n, or the counting.
     fn codes(&self) -> bool {
         match self {
-            Record::Rule(Rule::Label { op, .. } | Rule::LinkRule { op, .. }) => op.in_range(),
+            Record::Rule(rule) => rule.operator().is_none_or(|op| op.in_range()),
             Record::Counting(value) => Counting::named(*value).is_some(),
             _ => true,
         }

@@ -194,7 +194,7 @@ fn unreachable_lists_are_seen() {
 }
 
 #[test]
-fn lowest_number_first() {
+fn first_that_applies() {
     let mut memory = memory_of(&full());
     let short = Lent {
         spans: 193,

@@ -2,12 +2,9 @@
 
 use model::block::COUNTING_AT;
 use model::frame::{bytes, framed};
-use model::listing::{self, answers_to as answers};
+use model::listing::{self, answers_to as answers, last_answer};
 use model::short::*;
 use model::terms::*;
-
-/// A rule list that has one rule.
-const RULE: Record = Record::Rule(Rule::Both { a: 1, b: 2, c: 3 });
 
 /// The marks of label 1 on item 0.
 fn marks(ends: &[(i32, i32)]) -> Vec<Record> {
@@ -20,7 +17,7 @@ fn within_gives(value: u8, n: u32, ends: &[(i32, i32)]) -> String {
     let mut records = vec![counting(value), label(within(n), 1, 2)];
     records.extend(marks(ends));
     records.push(spans(0, 2));
-    answers(&records).pop().unwrap()
+    last_answer(&records)
 }
 
 /// For each case what the old counting gives, and the new one.
@@ -106,21 +103,11 @@ fn the_widest_gap() {
 /// Links are counted alike, and what is derived goes on by the same counting.
 #[test]
 fn links_and_chains() {
-    let records = |value| {
-        [
-            counting(value),
-            link_rule(within(5), 0, 1),
-            via(1, EVERY, 4),
-            label(within(10), 4, 5),
-            put(link(0, 0, 1), 10),
-            put(link(0, 0, 1), 15),
-            put(link(0, 0, 1), 25),
-            query(link(0, 1, 1), 12),
-            spans(0, 5),
-        ]
-    };
-    assert_eq!(answers(&records(1))[7..], ["no", "spans 2 10:15 25:25"]);
-    assert_eq!(answers(&records(2))[7..], ["yes", "spans 1 10:25"]);
+    let third = put(link(0, 0, 1), 25);
+    let asked = [third, query(link(0, 1, 1), 12), spans(0, 5)];
+    let said = |value| answers(&[&links_5_apart(value)[..], &asked].concat());
+    assert_eq!(said(1)[7..], ["no", "spans 2 10:15 25:25"]);
+    assert_eq!(said(2)[7..], ["yes", "spans 1 10:25"]);
 }
 
 #[test]
@@ -129,7 +116,7 @@ fn a_contradiction_by_the_new_counting_alone() {
         let mut records = vec![counting(value), label(within(10), 1, 2), both(2, 3, NEVER)];
         records.extend(marks(&[(0, 0), (10, 10)]));
         records.extend([put(has(0, 3), 5), query(has(0, 3), 5)]);
-        answers(&records).pop().unwrap()
+        last_answer(&records)
     };
     assert_eq!(asked(1), "yes");
     assert_eq!(asked(2), "contradiction 0");

@@ -2,7 +2,7 @@
 
 use model::depths::Depths;
 use model::frame::bytes;
-use model::listing::{answers_to as answers, listing, MAX_INPUT};
+use model::listing::{answers_to as answers, last_answer as last, listing, MAX_INPUT};
 use model::short::*;
 use model::terms::Counting::{New, Old};
 use model::terms::*;
@@ -10,10 +10,6 @@ use model::terms::*;
 fn set(depths: &[i64]) -> Depths {
     let single = depths.iter().map(|&depth| Depths::one(depth));
     single.fold(Depths::default(), |all, one| all.union(&one))
-}
-
-fn last(records: &[Record]) -> String {
-    answers(records).pop().unwrap()
 }
 
 #[test]
@@ -48,7 +44,7 @@ fn nothing_gives_nothing() {
 }
 
 #[test]
-fn distance_is_less_than_n() {
+fn distance_is_less_than_n_by_the_old_counting() {
     let m = set(&[104, 123]);
     assert_eq!(m.under(within(20), Old), Depths::run(104, 123));
     assert_eq!(m.under(within(19), Old), m);
@@ -71,11 +67,9 @@ fn nothing_held() {
 
 #[test]
 fn every_item_is_contradictory() {
-    let rules = [label(within(1), EVERY, 1), label(within(1), 1, NEVER)];
-    assert_eq!(
-        last(&[rules[0], rules[1], query(has(0, 5), 0)]),
-        "contradiction 0"
-    );
+    let asked = [query(has(0, 5), 0)];
+    let said = last(&[&never_everywhere()[..], &asked].concat());
+    assert_eq!(said, "contradiction 0");
 }
 
 #[test]

@@ -3,17 +3,15 @@
 use model::block::{decode, encode};
 use model::frame::{bytes, framed};
 use model::held::Held;
-use model::listing::{self, answers_to as answers};
+use model::listing::{self, answers_to as answers, last_answer};
 use model::service::{record, Lent, Memory};
 use model::short::*;
 use model::tables::{representatives, PIECES};
 use model::terms::*;
 
-const RULE: Record = Record::Rule(Rule::Both { a: 1, b: 2, c: 3 });
-
 /// The last answer, in the hole from 10 to 30.
 fn last(records: &[Record]) -> String {
-    answers(&[&[hole(10, 30)], records].concat()).pop().unwrap()
+    last_answer(&[&[hole(10, 30)], records].concat())
 }
 
 /// What the operator gives in the hole from 10 to 30 on a mark of label 1.
@@ -97,7 +95,7 @@ fn order_of_the_holes_refusals() {
     for (top, bottom, number) in TURNED_AWAY {
         let refused = format!("refused {number}");
         let asked = hole(top, bottom);
-        assert_eq!(answers(&[asked]), [refused.clone()]);
+        assert_eq!(answers(&[asked]), [refused.as_str()]);
         assert_eq!(last(&[asked]), refused);
         assert_eq!(last(&[put(has(0, 1), 10), asked]), refused);
     }
@@ -153,7 +151,7 @@ fn lists_at_their_limits() {
     let at = |count, more: &[Record]| {
         let records = [hole(-1, 479)].into_iter().chain(points(count));
         let records: Vec<_> = records.chain(more.iter().copied()).collect();
-        answers(&records).pop().unwrap()
+        last_answer(&records)
     };
     assert_eq!(at(95, &[put(has(0, 1), 477)]), "done");
     assert_eq!(at(94, &[put_from_to(has(0, 1), 477, 478)]), "done");

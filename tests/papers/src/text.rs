@@ -42,7 +42,7 @@ impl Line<'_> {
 
     fn depth(&mut self) -> Result<i32, String> {
         let number = self.number()?;
-        i32::try_from(number).map_err(|_| format!("{number} is no mark's depth"))
+        i32::try_from(number).map_err(|_| format!("{number} is no depth of a mark or a hole"))
     }
 
     fn operator(&mut self) -> Result<Operator, String> {

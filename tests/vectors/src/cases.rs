@@ -106,12 +106,7 @@ pub fn short_memory(script: &mut Script) {
             spans: exact.spans - 1,
             ..WHOLE
         },
-        Lent {
-            block: 0,
-            labels: 0,
-            links: 0,
-            spans: 0,
-        },
+        Lent::NOTHING,
     ];
     short.iter().for_each(|lent| {
         script.call(lent, &bytes(&Record::Reset));
@@ -219,16 +214,18 @@ pub fn ends_of_the_range(script: &mut Script) {
     ]);
 }
 
+/// A rule for each operator without a distance, from one label to four others in a row.
+pub fn whole_rules(left: u8, first: u8) -> [Record; 4] {
+    let rule = |code| label(whole(code), left, first + code - BETWEEN);
+    [BETWEEN, ABOVE, BELOW, ANYWHERE].map(rule)
+}
+
 pub fn operators(script: &mut Script) {
     script.send(&Record::Reset);
     script.send_all([-3, -2, 0, 4].map(|depth| put(has(0, 1), depth)));
+    script.send_all([label(within(3), 1, 2), label(within(1), 1, 3)]);
+    script.send_all(whole_rules(1, 4));
     script.send_all([
-        label(within(3), 1, 2),
-        label(within(1), 1, 3),
-        label(whole(BETWEEN), 1, 4),
-        label(whole(ABOVE), 1, 5),
-        label(whole(BELOW), 1, 6),
-        label(whole(ANYWHERE), 1, 7),
         label(whole(ANYWHERE), 8, 9),
         label(within(19), 10, 11),
         label(within(20), 10, 12),
@@ -266,11 +263,8 @@ pub fn links(script: &mut Script) {
 
 /// The span buffer is kept on contradiction, the tables show the collection.
 pub fn contradictions(script: &mut Script) {
-    script.send_all([
-        Record::Reset,
-        label(within(1), EVERY, 1),
-        label(within(1), 1, NEVER),
-    ]);
+    script.send(&Record::Reset);
+    script.send_all(never_everywhere());
     script.fill(Part::Spans, 77);
     script.send_all([
         query(has(0, 1), 0),

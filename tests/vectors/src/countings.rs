@@ -1,6 +1,6 @@
 //! Two ways of counting a distance at the edges, as steps of the same script.
 
-use crate::cases::{patterns, refill};
+use crate::cases::{patterns, refill, whole_rules};
 use crate::script::{Part, Script, WHOLE};
 use model::block::{COUNTING_AT, SIZE};
 use model::frame::{bytes, framed};
@@ -83,12 +83,7 @@ pub fn operators(script: &mut Script) {
         script.send_all([1, 2, 3, 4, 5].map(|n| label(within(n), 1, 1 + n as u8)));
         script.send_all([9, 10, 11].map(|n| label(within(n), 10, 2 + n as u8)));
         script.send_all([18, 19, 20].map(|n| label(within(n), 20, 3 + n as u8)));
-        script.send_all([
-            label(whole(BETWEEN), 20, 30),
-            label(whole(ABOVE), 20, 31),
-            label(whole(BELOW), 20, 32),
-            label(whole(ANYWHERE), 20, 33),
-        ]);
+        script.send_all(whole_rules(20, 30));
         script.send_all([-3, -2, 0, 4].map(|depth| put(has(0, 1), depth)));
         script.send_all([put_from_to(has(0, 10), 100, 110), put(has(0, 10), 120)]);
         script.send_all([104, 123].map(|depth| put(has(0, 20), depth)));
@@ -115,14 +110,9 @@ pub fn widest_gap(script: &mut Script) {
 /// LINKRULE and what follows from it, by either counting.
 pub fn links(script: &mut Script) {
     for value in [1, 2] {
+        script.send(&Record::Reset);
+        script.send_all(links_5_apart(value));
         script.send_all([
-            Record::Reset,
-            counting(value),
-            link_rule(within(5), 0, 1),
-            via(1, EVERY, 4),
-            label(within(10), 4, 5),
-            put(link(0, 0, 1), 10),
-            put(link(0, 0, 1), 15),
             put_from_to(link(0, 0, 1), 25, 30),
             query(link(0, 1, 1), 12),
             query(link(0, 0, 1), 12),

@@ -1,6 +1,6 @@
 //! A hole with two ends at the edges, as steps of the same script.
 
-use crate::cases::{patterns, refill};
+use crate::cases::{patterns, refill, whole_rules};
 use crate::script::{Part, Script, WHOLE};
 use model::block::{HOLE_AT, HOLE_ENDS_AT, SIZE};
 use model::frame::{bytes, framed};
@@ -8,14 +8,11 @@ use model::service::Lent;
 use model::short::*;
 use model::terms::*;
 
-/// A rule for each operator from label 1, and two for links.
+/// A rule for each operator from label 1, one from EVERY, and one for links.
 fn rules(script: &mut Script) {
+    script.send(&label(within(11), 1, 2));
+    script.send_all(whole_rules(1, 3));
     script.send_all([
-        label(within(11), 1, 2),
-        label(whole(BETWEEN), 1, 3),
-        label(whole(ABOVE), 1, 4),
-        label(whole(BELOW), 1, 5),
-        label(whole(ANYWHERE), 1, 6),
         label(whole(BELOW), EVERY, 7),
         link_rule(whole(ANYWHERE), 0, 1),
     ]);
@@ -93,9 +90,12 @@ pub fn refused(script: &mut Script) {
     }
 }
 
+/// A top and a bottom.
+type Ends = (i32, i32);
+
 /// A hole and marks of label 1 in it: around them, with its ends at theirs, of one depth, and as
 /// wide as can be.
-const MARKED_HOLES: [((i32, i32), &[(i32, i32)]); 7] = [
+const MARKED_HOLES: [(Ends, &[Ends]); 7] = [
     ((90, 130), &[(100, 105), (115, 115)]),
     ((100, 115), &[(100, 105), (115, 115)]),
     ((100, 130), &[(100, 105), (115, 115)]),

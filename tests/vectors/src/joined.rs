@@ -178,11 +178,8 @@ pub fn derived(script: &mut Script) {
 
 /// Every item has NEVER: each names itself, or the lowest that it is joined to.
 pub fn all_bad(script: &mut Script) {
-    script.send_all([
-        Record::Reset,
-        label(within(1), EVERY, 1),
-        label(within(1), 1, NEVER),
-    ]);
+    script.send(&Record::Reset);
+    script.send_all(never_everywhere());
     script.send_all([0, 5, 15].map(|item| query(has(item, 5), 0)));
     script.send_all([(5, 3), (3, 5), (15, 15)].map(|(from, to)| query(link(from, 0, to), 0)));
     script.send(&put(link(9, 2, 4), 7));

@@ -1,6 +1,6 @@
 //! Marks with top and bottom at the edges, as steps of the same script.
 
-use crate::cases::refill;
+use crate::cases::{refill, whole_rules};
 use crate::script::{Part, Script, WHOLE};
 use model::block::{MARKS_AT, MARK_PLACE};
 use model::service::Lent;
@@ -15,11 +15,8 @@ pub fn operators(script: &mut Script) {
         label(within(1), 1, 2),
         label(within(10), 1, 3),
         label(within(11), 1, 4),
-        label(whole(BETWEEN), 1, 5),
-        label(whole(ABOVE), 1, 6),
-        label(whole(BELOW), 1, 7),
-        label(whole(ANYWHERE), 1, 8),
     ]);
+    script.send_all(whole_rules(1, 5));
     script.send_all((1..9).map(|label| spans(0, label)));
     let asked = [99, 100, 101, 105, 109, 110, 111, 119, 120, 121];
     script.send_all(asked.map(|depth| query(has(0, 1), depth)));
