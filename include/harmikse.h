@@ -64,8 +64,8 @@
  * tops and bottoms, each depth once; what lies between is not marked.
  *
  * Counting: WITHIN n fills from j to k where k - j < n by the old counting, and where k - j <= n by the new one. Kind
- * 17 sets it. Send it before the rules: while a rule is held it is refused with 15, whichever counting it names. The
- * empty state has the old counting, and RESET goes back to it.
+ * 17 sets it; a byte other than 1 and 2 is refused with 7. Send it before the rules: while a rule is held it is refused
+ * with 15, whichever of the two it names. The empty state has the old counting, and RESET goes back to it.
  *
  * Hole: kind 18 gives the hole's top and bottom. From then on only the depths from one to the other exist, both
  * included: EVERY holds there alone, each operator gives depths of the hole alone, and a question outside is answered

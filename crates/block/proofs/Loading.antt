@@ -18,8 +18,9 @@ use Rattle.terms.specs.Lists.{limits}
 use Rattle.state.specs.declared.State.{State}
 use Rattle.state.specs.State.{heldOf, Counts-in}
 use Rattle.block.specs.declared.Loaded.{Loaded}
-use Rattle.block.specs.Block.{settingsAt, ruleRead, markRead, tab, readHeld, sameBytes, good, Loaded-as}
-use Rattle.block.specs.Layout.{HEADER, RULE-BYTES, MARK-BYTES, MARKS-AT, SIZE, encode}
+use Rattle.places.specs.Read.{settingsAt, ruleRead, markRead}
+use Rattle.block.specs.Block.{tab, readHeld, sameBytes, good, Loaded-as}
+use Rattle.places.specs.Layout.{HEADER, RULE-BYTES, MARK-BYTES, MARKS-AT, SIZE, encode}
 use Rattle.block.specs.Places.{placeFrom, markFrom, Filled, Not-good}
 use Rattle.block.proofs.Tab.{map-tab, length-tab}
 

@@ -14,7 +14,7 @@ use Rattle.terms.specs.Limits.{RULES, MARKS}
 use Rattle.terms.specs.Places.{rulesIn}
 use Rattle.state.specs.declared.State.{State}
 use Rattle.state.specs.State.{heldOf, Counts-in}
-use Rattle.block.specs.Layout.{
+use Rattle.places.specs.Layout.{
   settingsBytes,
   ruleBytes,
   markBytes,
@@ -43,17 +43,6 @@ drop-zeros m n t h =
     let s : zeros n ++ t ≡ zeros m ++ (zeros (n - m) ++ t) =
     ap (λ (z : List ℕ). z ++ t) (ap zeros (sym e) ∙ sym (zeros-add m (n - m))) ∙ append-assoc (zeros m) (zeros (n - m)) t in
     ap (drop m) s ∙ drop-at (zeros m) (zeros (n - m) ++ t) m (length-zeros m)
-
--- three parts laid one behind the other are one part
-pub lay-three :
-    (l l1 l2 l3 p q r : List ℕ) (at m n : ℕ) → l1 ≡ put l at p → l2 ≡ put l1 m q → l3 ≡ put l2 n r →
-    m ≡ at + length p → n ≡ m + length q → n ≤ length l → l3 ≡ put l at (p ++ (q ++ r))
-lay-three l l1 l2 l3 p q r at m n e1 e2 e3 hm hn h =
-    let z : n ≡ at + length (p ++ q) = simp length-append (omega arith) in
-    e3
-    ∙ ap (λ (x : List ℕ). put x n r) (e2 ∙ ap (λ (x : List ℕ). put x m q) e1 ∙ put-put l at m p q hm (omega arith))
-    ∙ put-put l at n (p ++ q) r z h
-    ∙ ap (put l at) (append-assoc p q r)
 
 put-front : (l x : List ℕ) → put l 0 x ≡ x ++ drop (length x) l
 unfolding put

@@ -36,7 +36,7 @@ use Rattle.terms.specs.Ends.{top-placed, bottom-placed}
 use Rattle.terms.specs.Places.{emptyMark}
 use Rattle.terms.specs.Lists.{every, limits}
 use Rattle.terms.specs.Limited.{Limited, limited}
-use Rattle.block.specs.Layout.{
+use Rattle.places.specs.Layout.{
   countingByte,
   holeBytes,
   settingsBytes,
@@ -56,22 +56,8 @@ use Rattle.block.specs.Layout.{
   padded,
   encode,
 }
-use Rattle.block.specs.Block.{
-  countingFrom,
-  holeFrom,
-  settingsAt,
-  ruleOf,
-  ruleRead,
-  markOf,
-  markRead,
-  tab,
-  readHeld,
-  sameBytes,
-  unreadable,
-  holds,
-  good,
-  decode,
-}
+use Rattle.places.specs.Read.{countingFrom, holeFrom, settingsAt, ruleOf, ruleRead, markOf, markRead}
+use Rattle.block.specs.Block.{tab, readHeld, sameBytes, unreadable, holds, good, decode}
 use Rattle.block.proofs.Tab.{tab-is, cat-get, length-cat}
 use Rattle.block.proofs.Sizes.{settings-length, settings-size, rule-size, mark-size, length-padded}
 use Rattle.block.proofs.Pack.{zeros-add}

@@ -15,7 +15,7 @@ use Rattle.terms.specs.declared.Atom.{Atom}
 use Rattle.terms.specs.declared.Atom.the-variants.{Has, Linked}
 use Rattle.terms.specs.declared.Mark.{Mark}
 use Rattle.terms.specs.declared.Settings.{Settings}
-use Rattle.block.specs.Layout.{
+use Rattle.places.specs.Layout.{
   countingByte,
   holeBytes,
   settingsBytes,

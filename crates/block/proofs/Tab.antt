@@ -9,7 +9,7 @@ use lib.ListN.{length, getD, take, set, length-append, List·getD-append}
 use lib.Seq.{take-suc, take-suc-set, take-all, length-take-le, getD-append-add}
 use Rattle.codec.specs.Bytes.{put}
 use Rattle.codec.proofs.Laws.{put-put}
-use Rattle.block.specs.Layout.{cat}
+use Rattle.places.specs.Layout.{cat}
 use Rattle.block.specs.Block.{tab}
 
 -- a store of f i at i

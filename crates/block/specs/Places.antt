@@ -8,8 +8,9 @@ use Rattle.terms.specs.declared.RulePlace.{RulePlace}
 use Rattle.terms.specs.declared.Mark.{Mark}
 use Rattle.state.specs.State.{Counts-in}
 use Rattle.block.specs.declared.Loaded.{Loaded}
-use Rattle.block.specs.Layout.{ruleBytes, HEADER, RULE-BYTES, MARK-BYTES, MARKS-AT}
-use Rattle.block.specs.Block.{ruleRead, markRead, tab}
+use Rattle.places.specs.Layout.{ruleBytes, HEADER, RULE-BYTES, MARK-BYTES, MARKS-AT}
+use Rattle.places.specs.Read.{ruleRead, markRead}
+use Rattle.block.specs.Block.{tab}
 
 -- the rule place i of a block
 abbrev pub placeFrom : List ℕ → ℕ → RulePlace

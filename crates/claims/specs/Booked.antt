@@ -23,7 +23,7 @@ use Rattle.refusals.specs.Refusals.{rank, tested, test, Test}
 use Rattle.terms.specs.Same.{sameMark}
 use Rattle.records.specs.declared.Command.{Command}
 use Rattle.records.specs.declared.Command.the-variants as Command
-use Rattle.records.specs.Formats.{kindField, bodyOf, usedFor}
+use Rattle.frames.specs.Frames.{kindField, bodyOf, usedFor}
 use Rattle.records.specs.Records.{parse}
 use Rattle.decide.specs.Decides.{Reply, Decides}
 use Rattle.decide.specs.Unique.{at-most-one}

@@ -17,8 +17,8 @@ use Rattle.terms.specs.Limits.{ITEMS, INTERVALS, LABEL-ENTRIES, LINK-ENTRIES}
 use Rattle.terms.specs.Pairs.{pairCount}
 use Rattle.terms.specs.Held.{Held}
 use Rattle.refusals.specs.Refusals.{test, tested}
-use Rattle.records.specs.Formats.{usedFor}
-use Rattle.block.specs.Layout.{SIZE, encode}
+use Rattle.frames.specs.Frames.{usedFor}
+use Rattle.places.specs.Layout.{SIZE, encode}
 use Rattle.block.specs.Block.{readHeld, good}
 use Rattle.commands.specs.Buffers.{Buffers, lent, After, after, short}
 use Rattle.commands.specs.Call.{call}

@@ -19,7 +19,7 @@ use Rattle.terms.specs.Pairs.{pairsOf}
 use Rattle.terms.specs.Spans.{flat}
 use Rattle.spans.specs.Longest.{flat-length}
 use Rattle.refusals.specs.Refusals.{test, tested}
-use Rattle.records.specs.Formats.{kindField, lengthField, bodyOf}
+use Rattle.frames.specs.Frames.{kindField, lengthField, bodyOf}
 use Rattle.decide.specs.Decides.{Yes, No, Spans, Reply, Contradiction, Answered}
 use Rattle.decide.specs.Answer.{answer}
 use Rattle.logic.specs.Untouched.{Untouched}

@@ -20,7 +20,7 @@ use Rattle.logic.specs.Depths.{Derived}
 use Rattle.terms.specs.Spans.{Run, Longest, flat}
 use Rattle.line.specs.Pieces.{Pieces}
 use Rattle.tables.specs.Shows.{Shows}
-use Rattle.block.specs.Layout.{SIZE, encode}
+use Rattle.places.specs.Layout.{SIZE, encode}
 use Rattle.decide.specs.Decides.{Never, Lowest, Some, InAll, InOneNot}
 use Rattle.commands.specs.Buffers.{Buffers, After}
 use Rattle.claims.specs.Table.{Asks}

@@ -28,11 +28,11 @@ use Rattle.line.specs.Intervals.{interval, count}
 use Rattle.line.specs.IntervalLaws.{pieces}
 use Rattle.tables.specs.TableLaws.{table-exact}
 use Rattle.spans.specs.Longest.{flat-length}
-use Rattle.block.specs.Layout.{SIZE, encode}
+use Rattle.places.specs.Layout.{SIZE, encode}
 use Rattle.block.specs.Block.{readHeld, good}
 use Rattle.records.specs.declared.Command.{Command}
 use Rattle.records.specs.declared.Command.the-variants as Command
-use Rattle.records.specs.Formats.{lengthField, bodyOf, usedFor}
+use Rattle.frames.specs.Frames.{lengthField, bodyOf, usedFor}
 use Rattle.decide.specs.Decides.{Yes, No, Spans, Reply, Contradiction, Answered, Never, Some, InAll, InOneNot}
 use Rattle.decide.specs.Answer.{answer}
 use Rattle.decide.specs.Decide.{contradiction-exactly, yes-exactly, no-exactly, spans-exactly, clear-spans}

@@ -12,8 +12,9 @@ use Rattle.terms.specs.Held.{Held, emptyHeld}
 use Rattle.refusals.specs.Refusals.{Test, test, tested}
 use Rattle.records.specs.declared.Command.{Command}
 use Rattle.records.specs.declared.Command.the-variants as Command
-use Rattle.records.specs.Formats.{lengthField, kindField, bodyOf, isUnknown, lengthsOf}
-use Rattle.records.specs.Records.{bodyTests, commandIn, frameTests}
+use Rattle.frames.specs.Frames.{lengthField, kindField, bodyOf, isUnknown, lengthsOf}
+use Rattle.records.specs.Records.{bodyTests, commandIn}
+use Rattle.frames.specs.Framing.{frameTests}
 use Rattle.commands.specs.Call.{heldTests}
 use Rattle.claims.specs.Table.{
   Counts,

@@ -21,7 +21,7 @@ use Rattle.terms.specs.Held.{Held}
 use Rattle.terms.specs.Lists.{limits}
 use Rattle.terms.specs.Spans.{Run, flat}
 use Rattle.block.specs.Block.{readHeld, sameBytes, good}
-use Rattle.block.specs.Layout.{SIZE, encode}
+use Rattle.places.specs.Layout.{SIZE, encode}
 use Rattle.records.specs.declared.Command.the-variants as Command
 use Rattle.records.specs.Records.{questionTests, decodedAs, asQuestion, parsedBody, parse}
 use Rattle.tables.specs.Tables.{labelTable, linkTable}

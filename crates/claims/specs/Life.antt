@@ -17,7 +17,7 @@ use Rattle.refusals.specs.Refusals.{test, tested}
 use Rattle.terms.specs.Otherwise.{onTested}
 use Rattle.terms.specs.Held.{Held, emptyHeld}
 use Rattle.terms.specs.Lists.{limits}
-use Rattle.block.specs.Layout.{zeros, SIZE, encode}
+use Rattle.places.specs.Layout.{zeros, SIZE, encode}
 use Rattle.block.specs.Block.{readHeld, good}
 use Rattle.records.specs.declared.Command.{Command}
 use Rattle.records.specs.declared.Command.the-variants as Command

@@ -6,7 +6,7 @@ use lib.IntN.{ℤ}
 use lib.ListN.{length, take, drop}
 use Rattle.terms.specs.Pairs.{pairsOf}
 use Rattle.terms.specs.Held.{Held}
-use Rattle.block.specs.Layout.{zeros, SIZE, encode}
+use Rattle.places.specs.Layout.{zeros, SIZE, encode}
 use Rattle.commands.specs.Buffers.{Buffers, lent, After}
 use Rattle.commands.specs.Call.{call}
 use Rattle.claims.specs.Beside.{Beside-call, blockAfter}

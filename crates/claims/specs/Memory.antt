@@ -7,7 +7,7 @@ use Rattle.terms.specs.declared.Answer.{Answer}
 use Rattle.terms.specs.declared.Answer.the-variants as Answer
 use Rattle.terms.specs.Pairs.{pairCount}
 use Rattle.terms.specs.Limits.{DEPTHS, LABEL-ENTRIES, LINK-ENTRIES}
-use Rattle.block.specs.Layout.{SIZE}
+use Rattle.places.specs.Layout.{SIZE}
 use Rattle.commands.specs.Buffers.{Buffers}
 
 -- 01, State and tables: only done changes the block, and done leaves the tables; only spans write the span buffer; end changes nothing, nor does a

@@ -6,7 +6,7 @@ use native.Mathlib.Omega.{arith}
 use lib.ListN.{length, take, drop, length-take, length-drop, take-append-drop}
 use lib.Seq.{take-all, drop-length}
 use Rattle.terms.specs.Held.{Held}
-use Rattle.block.specs.Layout.{SIZE}
+use Rattle.places.specs.Layout.{SIZE}
 use Rattle.commands.specs.Buffers.{Buffers, lent}
 use Rattle.commands.specs.Call.{call}
 use Rattle.claims.specs.Reference.{Fed, Book}

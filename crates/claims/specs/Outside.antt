@@ -15,7 +15,7 @@ use Rattle.logic.specs.Depths.{Derived}
 use Rattle.terms.specs.Spans.{Run, flat}
 use Rattle.terms.specs.Limited.{limited, in-range}
 use Rattle.spans.specs.Longest.{run-ends}
-use Rattle.records.specs.Formats.{lengthField}
+use Rattle.frames.specs.Frames.{lengthField}
 use Rattle.decide.specs.Decide.{outside-no}
 use Rattle.decide.specs.Answer.{answer}
 use Rattle.decide.specs.Verdicts.{answerOf}

@@ -25,7 +25,7 @@ use Rattle.terms.specs.Held.{_∈_, Held, endsOf, withCounting, withHole, isRul
 use Rattle.terms.specs.Same.{sameRule, sameMark}
 use Rattle.terms.specs.SameLaws.{same-rule, rule-same, same-mark, mark-same}
 use Rattle.terms.specs.Lists.{some, once, depthCount, limits}
-use Rattle.block.specs.Layout.{SIZE, encode}
+use Rattle.places.specs.Layout.{SIZE, encode}
 use Rattle.block.specs.Block.{good}
 use Rattle.records.specs.declared.Command.{Command}
 use Rattle.records.specs.declared.Command.the-variants as Command

@@ -19,7 +19,7 @@ use Rattle.terms.specs.Lists.{strike}
 use Rattle.refusals.specs.Refusals.{tested}
 use Rattle.terms.specs.Same.{sameMark}
 use Rattle.terms.specs.Spans.{flat}
-use Rattle.records.specs.Formats.{lengthField, usedFor}
+use Rattle.frames.specs.Frames.{lengthField, usedFor}
 use Rattle.decide.specs.Decides.{Yes, No, Spans, Reply, Contradiction, Answered, Decides}
 use Rattle.commands.specs.Buffers.{isShort}
 use Rattle.claims.specs.Table.{Counts, Confines, Said, Empties, Adds, Puts, Takes, Sets, Asks, said, table}

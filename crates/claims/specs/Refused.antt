@@ -20,9 +20,10 @@ use Rattle.terms.specs.Held.{_∈_, Held}
 use Rattle.block.specs.Block.{readHeld, good}
 use Rattle.records.specs.declared.Command.{Command}
 use Rattle.records.specs.declared.Command.the-variants as Command
-use Rattle.records.specs.declared.Framed.the-variants as Framed
-use Rattle.records.specs.Formats.{lengthField, kindField, bodyOf, usedFor}
-use Rattle.records.specs.Records.{bodyTests, commandIn, decodedAs, frameTests, framed, parsedBody, parsedFrame, parse}
+use Rattle.frames.specs.declared.Framed.the-variants as Framed
+use Rattle.frames.specs.Frames.{lengthField, kindField, bodyOf, usedFor}
+use Rattle.records.specs.Records.{bodyTests, commandIn, decodedAs, parsedBody, parsedFrame, parse}
+use Rattle.frames.specs.Framing.{frameTests, framed}
 use Rattle.decide.specs.Decides.{Yes, No, Spans, Reply, Contradiction, Answered}
 use Rattle.decide.specs.Answer.{answer}
 use Rattle.decide.specs.Verdicts.{answerOf}

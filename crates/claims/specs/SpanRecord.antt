@@ -22,7 +22,7 @@ use Rattle.block.specs.Block.{readHeld, good}
 use Rattle.records.specs.declared.Command.the-variants as Command
 use Rattle.records.specs.declared.Decoded.{Decoded}
 use Rattle.records.specs.Parsed.{Parsed}
-use Rattle.records.specs.Formats.{lengthsOf}
+use Rattle.frames.specs.Frames.{lengthsOf}
 use Rattle.records.specs.Records.{bodyTests, commandIn, questionTests, decodedAs, parsedBody}
 use Rattle.records.specs.Frame.{parse-record}
 use Rattle.decide.specs.Decides.{Yes, No, Spans, Reply, Contradiction, Answered}

@@ -14,7 +14,7 @@ use Rattle.terms.specs.Tests.{true-of, of-true}
 use Rattle.terms.specs.declared.Tested.the-variants as Tested
 use Rattle.refusals.specs.Refusals.{tested}
 use Rattle.terms.specs.Held.{Held, emptyHeld}
-use Rattle.block.specs.Layout.{zeros, SIZE, encode}
+use Rattle.places.specs.Layout.{zeros, SIZE, encode}
 use Rattle.block.specs.Block.{readHeld, good, unreadable, holds, decode}
 use Rattle.block.proofs.Round.{length-encode, encode-empty, read-encode, decode-encode, decode-holds}
 use Rattle.records.specs.declared.Command.{Command}

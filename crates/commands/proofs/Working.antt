@@ -14,7 +14,7 @@ use Rattle.terms.specs.Otherwise.{onTested}
 use Rattle.terms.specs.Held.{Held}
 use Rattle.state.specs.declared.Change.{Change}
 use Rattle.state.specs.State.{heldOf, Change-as}
-use Rattle.block.specs.Layout.{SIZE, encode}
+use Rattle.places.specs.Layout.{SIZE, encode}
 use Rattle.records.specs.declared.Command.{Command}
 use Rattle.records.specs.Parsed.{Parsed}
 use Rattle.records.specs.Parsed as Parsed

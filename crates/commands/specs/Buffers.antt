@@ -7,7 +7,7 @@ use lib.IntN.{ℤ}
 use lib.ListN.{length}
 use Rattle.terms.specs.declared.Answer.{Answer}
 use Rattle.terms.specs.Limits.{LABEL-ENTRIES, LINK-ENTRIES, SPAN-NUMBERS}
-use Rattle.block.specs.Layout.{SIZE}
+use Rattle.places.specs.Layout.{SIZE}
 use Rattle.commands.specs.declared.Reply as Code
 
 -- 01, State and tables: the four lent pieces of memory

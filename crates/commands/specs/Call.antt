@@ -16,7 +16,7 @@ use Rattle.refusals.specs.Refusals.{Test, test, tested}
 use Rattle.terms.specs.Otherwise.{onTested}
 use Rattle.state.specs.Changes.{ruleTests, putTests, takeTests, countTests, confineTests, addRule, putMark, takeMark}
 use Rattle.block.specs.Block.{readHeld, good}
-use Rattle.block.specs.Layout.{SIZE, encode}
+use Rattle.places.specs.Layout.{SIZE, encode}
 use Rattle.records.specs.declared.Command.{Command}
 use Rattle.records.specs.declared.Command.the-variants as Command
 use Rattle.records.specs.Parsed.{Parsed}

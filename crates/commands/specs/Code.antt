@@ -15,7 +15,7 @@ use Rattle.refusals.specs.Refusals.{tested}
 use Rattle.terms.specs.Otherwise.{onTested}
 use Rattle.state.specs.declared.Change.{Change}
 use Rattle.state.specs.State.{heldOf}
-use Rattle.block.specs.Layout.{SIZE, encode}
+use Rattle.places.specs.Layout.{SIZE, encode}
 use Rattle.decide.specs.Decides.{Yes, No, Spans, Reply, Contradiction, Answered}
 use Rattle.decide.specs.Verdicts.{answerOf}
 use Rattle.questions.specs.Code.{spansAfter}

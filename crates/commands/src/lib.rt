@@ -5,7 +5,7 @@ ghost use lib.Dec.{T};
 ghost use lib.ListN.{length};
 ghost use Rattle.terms.specs.declared.Answer.the-variants as Answer;
 ghost use Rattle.state.specs.State.{heldOf, Counts-in};
-ghost use Rattle.block.specs.Layout.{SIZE};
+ghost use Rattle.places.specs.Layout.{SIZE};
 ghost use Rattle.records.specs.Parsed as Parsed;
 ghost use Rattle.records.specs.Proper.{Proper};
 ghost use Rattle.questions.specs.Code.{Held-state};

@@ -15,7 +15,7 @@ use Rattle.terms.specs.declared.Answer.the-variants as Answer
 use Rattle.terms.specs.Tests.{of-true}
 use Rattle.terms.specs.Pairs.{pairCount}
 use Rattle.terms.specs.Limits.{LABEL-ENTRIES, LINK-ENTRIES, SPAN-NUMBERS}
-use Rattle.block.specs.Layout.{zeros, SIZE}
+use Rattle.places.specs.Layout.{zeros, SIZE}
 use Rattle.commands.specs.Call.{call}
 use Rattle.commands.specs.Buffers.{Buffers, lent, After, after}
 use Rattle.lines.specs.Lines.{lineText}

@@ -9,7 +9,7 @@ use lib.ListN.{length, drop, replicate}
 use Rattle.terms.specs.declared.Answer.{Answer}
 use Rattle.terms.specs.declared.Answer.the-variants as Answer
 use Rattle.terms.specs.Limits.{LABEL-ENTRIES, LINK-ENTRIES, SPAN-NUMBERS}
-use Rattle.block.specs.Layout.{zeros, SIZE}
+use Rattle.places.specs.Layout.{zeros, SIZE}
 use Rattle.commands.specs.Call.{call}
 use Rattle.commands.specs.Buffers.{Buffers, lent}
 use Rattle.lines.specs.Lines.{codes, lineText}

@@ -18,13 +18,14 @@ use Rattle.records.specs.declared.Command.{Command}
 use Rattle.records.specs.declared.Command.the-variants as Command
 use Rattle.records.specs.declared.Decoded.{Decoded}
 use Rattle.records.specs.declared.Decoded.the-variants as Decoded
-use Rattle.records.specs.declared.Lengths.{Lengths}
-use Rattle.records.specs.declared.Framed.{Framed}
-use Rattle.records.specs.declared.Framed.the-variants as Framed
+use Rattle.frames.specs.declared.Lengths.{Lengths}
+use Rattle.frames.specs.declared.Framed.{Framed}
+use Rattle.frames.specs.declared.Framed.the-variants as Framed
 use Rattle.records.specs.Parsed.{Parsed}
 use Rattle.records.specs.Parsed as Parsed
-use Rattle.records.specs.Records.{framed, decodeBody, parsedBody, parsedFrame, parse}
-use Rattle.records.specs.Formats.{lengthField, kindField, bodyOf, isUnknown, allows, lengthsOf, usedFor}
+use Rattle.frames.specs.Framing.{framed}
+use Rattle.records.specs.Records.{decodeBody, parsedBody, parsedFrame, parse}
+use Rattle.frames.specs.Frames.{lengthField, kindField, bodyOf, isUnknown, allows, lengthsOf, usedFor}
 use Rattle.decide.specs.Answer.{answer}
 use Rattle.decide.specs.Decides.{Yes, No, Spans, Reply, Contradiction, Answered}
 use Rattle.commands.specs.Call.{Outcome, Refused, Ended, Changed, Asked, heldTests, obey, judged, replied, effect}

@@ -9,10 +9,10 @@ use lib.Seq.{drop-drop, length-take-le}
 use Rattle.records.specs.declared.Command.{Command}
 use Rattle.records.specs.declared.Decoded.{Decoded}
 use Rattle.records.specs.declared.Decoded.the-variants as Decoded
-use Rattle.records.specs.declared.Framed.the-variants as Framed
-use Rattle.records.specs.Records.{decodeBody, framed, parsedBody, parsedFrame, parse}
-use Rattle.records.specs.Formats.{lengthField, bodyOf, lengthsOf, allows}
-use Rattle.records.specs.Frame.{Framed-in, framed-in}
+use Rattle.frames.specs.declared.Framed.the-variants as Framed
+use Rattle.records.specs.Records.{decodeBody, parsedBody, parsedFrame, parse}
+use Rattle.frames.specs.Framing.{framed, Framed-in, framed-in}
+use Rattle.frames.specs.Frames.{lengthField, bodyOf, lengthsOf, allows}
 use Rattle.reader.specs.declared.Input.{Input}
 use Rattle.reader.specs.declared.Input.the-variants as Input
 use Rattle.terms.specs.declared.Settings.{Settings}

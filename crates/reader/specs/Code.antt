@@ -10,8 +10,8 @@ use Rattle.records.specs.declared.Decoded.the-variants as Decoded
 use Rattle.records.specs.Parsed.{Parsed}
 use Rattle.records.specs.Parsed as Parsed
 use Rattle.records.specs.Records.{parse}
-use Rattle.records.specs.Formats.{bodyOf}
-use Rattle.records.specs.Frame.{Framed-in}
+use Rattle.frames.specs.Frames.{bodyOf}
+use Rattle.frames.specs.Framing.{Framed-in}
 use Rattle.terms.specs.declared.Settings.{Settings}
 
 -- what was decoded, with the bytes of its record

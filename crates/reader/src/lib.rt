@@ -2,11 +2,11 @@
 // slice, so these few are thin and their proofs walk the code; `frame_at`, on slice and place, does the work.
 ghost use mathlib.Core.Path.{_≡_};
 ghost use lib.ListN.{drop};
-ghost use Rattle.records.specs.Records.{framed};
+ghost use Rattle.frames.specs.Framing.{framed};
 ghost use Rattle.reader.specs.Code.{inputOf, Parsed-as};
+use frames::Framed;
 use records::Command;
 use records::Decoded;
-use records::Framed;
 use terms::Settings;
 
 pub struct Reader<'a> {
@@ -21,7 +21,7 @@ pub fn frame_at(src: &[u8], at: usize) -> Framed
     if at >= src.len() {
         return Framed::Nothing;
     }
-    records::frame(&src[at..])
+    frames::frame(&src[at..])
 }
 
 // A reader that has read up to a place.

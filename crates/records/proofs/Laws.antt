@@ -1,6 +1,6 @@
 -- The tests as the code joins them, and as the table has them. Assumes nothing.
 use mathlib.Core.Path.{_≡_, refl}
-use mathlib.Core.Bool.{Bool, true, false, not, cond}
+use mathlib.Core.Bool.{Bool, true, false, not}
 use mathlib.Core.List.{[], _∷_}
 use Prim.Native.Nat.{ℕ, _+_}
 use lib.Dec.{T, eqb→eq}
@@ -10,31 +10,9 @@ use Rattle.terms.specs.declared.Tested.{Tested}
 use Rattle.terms.specs.declared.Tested.the-variants as Tested
 use Rattle.terms.specs.Otherwise.{readTested, orElse}
 use Rattle.refusals.specs.Refusals.{test, tested}
-use Rattle.records.specs.Formats.{isInvalid, allows, lengthsOf}
-use Rattle.records.specs.declared.Lengths.the-variants as Lengths
-
--- one test
-pub one-test : (p : Bool) (n : ℕ) → cond p Tested.Passed (Tested.Refused n) ≡ tested (test (not p) n ∷ [])
-one-test true n = refl
-one-test false n = refl
-
--- one test, then another
-pub two-tests :
-    (p q : Bool) (m n : ℕ) → orElse (cond p Tested.Passed (Tested.Refused m)) (cond q Tested.Passed (Tested.Refused n))
-    ≡ tested (test (not p) m ∷ test (not q) n ∷ [])
-two-tests true true m n = refl
-two-tests true false m n = refl
-two-tests false q m n = refl
-
--- one test, then another, then a third
-pub three-tests :
-    (p q r : Bool) (l m n : ℕ) →
-    orElse (cond p Tested.Passed (Tested.Refused l)) (orElse (cond q Tested.Passed (Tested.Refused m)) (cond r Tested.Passed (Tested.Refused n)))
-    ≡ tested (test (not p) l ∷ test (not q) m ∷ test (not r) n ∷ [])
-three-tests true true true l m n = refl
-three-tests true true false l m n = refl
-three-tests true false r l m n = refl
-three-tests false q r l m n = refl
+use Rattle.records.specs.Formats.{isInvalid}
+use Rattle.frames.specs.Frames.{allows, lengthsOf}
+use Rattle.frames.specs.declared.Lengths.the-variants as Lengths
 
 -- names, then the operator
 pub names-operator : (p : Bool) (r : OperatorRead) → orElse (tested (test (not p) 6 ∷ [])) (readTested r) ≡ tested (test (not p) 6 ∷ test (isInvalid r) 7 ∷ [])

@@ -1,11 +1,10 @@
 -- How a record is read, by its kind: the tests of the frame and of each body, and the command that it says.
 use mathlib.Core.Bool.{not, cond, _&&_}
 use mathlib.Core.List.{List, [], _∷_}
-use Prim.Native.Nat.{ℕ, _+_, _-_}
-use lib.Dec.{eqb, ltb}
+use Prim.Native.Nat.{ℕ}
+use lib.Dec.{eqb}
 use lib.IntN.{ℤ}
 use lib.Signed.{leZ}
-use lib.ListN.{length}
 use Rattle.terms.specs.declared.OperatorRead.{OperatorRead}
 use Rattle.terms.specs.declared.Rule.{Rule}
 use Rattle.terms.specs.declared.Mark.{Mark}
@@ -18,37 +17,13 @@ use Rattle.refusals.specs.Refusals.{Test, test, tested}
 use Rattle.terms.specs.Otherwise.{onTested}
 use Rattle.records.specs.declared.Command.{Command}
 use Rattle.records.specs.declared.Command.the-variants as Command
-use Rattle.records.specs.declared.Lengths.{Lengths}
 use Rattle.records.specs.declared.Decoded.{Decoded}
 use Rattle.records.specs.declared.Decoded.the-variants as Decoded
-use Rattle.records.specs.declared.Framed.{Framed}
-use Rattle.records.specs.declared.Framed.the-variants as Framed
-use Rattle.records.specs.Formats.{
-  lengthField,
-  kindField,
-  bodyOf,
-  operatorAt,
-  isInvalid,
-  labelRule,
-  bothRule,
-  linkRule,
-  viaRule,
-  labelMark,
-  linkMark,
-  labelStretch,
-  linkStretch,
-  countingAt,
-  isNoCounting,
-  holeTop,
-  holeBottom,
-  labelQuestion,
-  linkQuestion,
-  spansQuestion,
-  allows,
-  isUnknown,
-  lengthsOf,
-  usedFor,
-}
+use Rattle.frames.specs.declared.Framed.{Framed}
+use Rattle.frames.specs.declared.Framed.the-variants as Framed
+use Rattle.frames.specs.Framing.{framed}
+use Rattle.frames.specs.Frames.{bodyOf}
+use Rattle.records.specs.Formats.{operatorAt, isInvalid, labelRule, bothRule, linkRule, viaRule, labelMark, linkMark, labelStretch, linkStretch, countingAt, isNoCounting, holeTop, holeBottom, labelQuestion, linkQuestion, spansQuestion}
 use Rattle.records.specs.Parsed.{Parsed}
 use Rattle.records.specs.Parsed as Parsed
 
@@ -149,25 +124,6 @@ asQuestion σ q = decodedAs (tested (questionTests σ q)) (Command.Ask q)
 -- a body of a kind of the table
 abbrev pub decodeBody : Settings → ℕ → List ℕ → Decoded
 decodeBody σ k b = decodedAs (tested (bodyTests σ k b)) (commandIn k b)
-
--- ---- the frame
-
--- 01, Where a record is turned away: frame
-abbrev pub kindTests : Lengths → ℕ → List Test
-kindTests l n = test (isUnknown l) 4 ∷ test (not (allows l n)) 5 ∷ []
-
-abbrev pub frameTests : List ℕ → List Test
-frameTests s =
-    test (ltb (length s) 4) 3
-    ∷ test (ltb (lengthField s) 2) 3
-    ∷ test (ltb (length s - 2) (lengthField s)) 3
-    ∷ kindTests (lengthsOf (kindField s)) (lengthField s)
-
--- nothing; refused, with the bytes used; a record of a kind, with its bytes
-unfoldable pub framed : List ℕ → Framed
-framed s =
-    cond (eqb (length s) 0) Framed.Nothing
-    (onTested (Framed.Record (kindField s) (lengthField s + 2)) (λ n. Framed.Refused n (usedFor n s)) (tested (frameTests s)))
 
 -- ---- a record
 

@@ -1,4 +1,4 @@
-// Records: the frame, the table of kinds, and the decoder of each body.
+// Records: the table of kinds, and the decoder of each body.
 ghost use mathlib.Core.Path.{_≡_};
 ghost use mathlib.Core.Bool.{not};
 ghost use mathlib.Core.List.{[], _∷_};
@@ -9,8 +9,8 @@ ghost use Rattle.terms.specs.Held.{isNamed};
 ghost use Rattle.refusals.specs.Refusals.{test, tested as testedBy};
 ghost use Rattle.terms.specs.Otherwise.{orElse};
 ghost use Rattle.records.specs.declared.Command.the-variants as To;
-ghost use Rattle.records.specs.Records.{markTests, asRule, asOperatorRule, asPut, asTake, asCounting, asHole, asQuestion, kindTests};
-ghost use Rattle.records.specs.Records.{decodedAs, decodeBody, framed};
+ghost use Rattle.records.specs.Records.{markTests, asRule, asOperatorRule, asPut, asTake, asCounting, asHole, asQuestion};
+ghost use Rattle.records.specs.Records.{decodedAs, decodeBody};
 ghost use Rattle.records.specs.Formats.{
   operatorAt,
   labelRule,
@@ -24,10 +24,8 @@ ghost use Rattle.records.specs.Formats.{
   labelQuestion,
   linkQuestion,
   spansQuestion,
-  allows,
-  lengthsOf,
 };
-ghost use Rattle.records.specs.Frame.{framedAs};
+ghost use Rattle.frames.specs.Frames.{allows, lengthsOf};
 use terms::Atom;
 use terms::Counting;
 use terms::Mark;
@@ -48,64 +46,10 @@ pub enum Command {
     Ask(Question),
 }
 
-// The lengths that a kind's records may have; unknown for a kind that there is not.
-pub enum Lengths {
-    Exactly(usize),
-    AtLeast(usize),
-    Unknown,
-}
-
 // A body, read: a command, or the refusal's number.
 pub enum Decoded {
     Command(Command),
     Refused(u8),
-}
-
-// The frame of what is left: nothing; a refusal's number and the bytes used; a kind and the bytes of its record.
-pub enum Framed {
-    Nothing,
-    Refused(u8, usize),
-    Record(u16, usize),
-}
-
-// The table of kinds: lengths.
-fn lengths_of(kind: u16) -> Lengths
-    ensures { λ r. ⌜ r ≡ lengthsOf kind ⌝ }
-{
-    match kind {
-        1 => Lengths::Exactly(2),
-        2 => Lengths::Exactly(9),
-        3 => Lengths::Exactly(5),
-        4 => Lengths::Exactly(9),
-        5 => Lengths::Exactly(5),
-        6 => Lengths::Exactly(8),
-        7 => Lengths::Exactly(9),
-        8 => Lengths::Exactly(8),
-        9 => Lengths::Exactly(9),
-        10 => Lengths::Exactly(12),
-        11 => Lengths::Exactly(13),
-        12 => Lengths::Exactly(4),
-        13 => Lengths::Exactly(12),
-        14 => Lengths::Exactly(13),
-        15 => Lengths::Exactly(12),
-        16 => Lengths::Exactly(13),
-        17 => Lengths::Exactly(3),
-        18 => Lengths::Exactly(10),
-        _ => Lengths::Unknown,
-    }
-}
-
-impl Lengths {
-    // A known kind, and a length that its records may have.
-    fn tested(self, length: usize) -> Tested
-        ensures { λ r. ⌜ r ≡ testedBy (kindTests self length) ⌝ }
-    {
-        match self {
-            Lengths::Exactly(n) => Tested::unless(length == n, 5),
-            Lengths::AtLeast(n) => Tested::unless(n <= length, 5),
-            Lengths::Unknown => Tested::Refused(4),
-        }
-    }
 }
 
 // The command where no test applies.
@@ -314,36 +258,4 @@ pub fn decode_body(settings: Settings, kind: u16, body: &[u8]) -> Decoded
         18 => confine(body),
         _ => Decoded::Refused(4),
     }
-}
-
-// The record of a kind where no test applies.
-fn framed_by(tested: Tested, kind: u16, used: usize) -> Framed
-    ensures { λ r. ⌜ r ≡ framedAs tested kind used ⌝ }
-{
-    match tested {
-        Tested::Passed => Framed::Record(kind, used),
-        Tested::Refused(number) => Framed::Refused(number, used),
-    }
-}
-
-// The frame of what is left of the input. The body is what stands behind its first four bytes.
-pub fn frame(input: &[u8]) -> Framed
-    ensures { λ r. ⌜ r ≡ framed (now (input .entry)) ⌝ }
-{
-    if input.len() == 0 {
-        return Framed::Nothing;
-    }
-    if input.len() < 4 {
-        return Framed::Refused(3, input.len());
-    }
-    let length = codec::u16_at(input, 0) as usize;
-    if length < 2 {
-        return Framed::Refused(3, input.len());
-    }
-    if input.len() - 2 < length {
-        return Framed::Refused(3, input.len());
-    }
-    let kind = codec::u16_at(input, 2);
-    let tested = lengths_of(kind).tested(length);
-    framed_by(tested, kind, length + 2)
 }

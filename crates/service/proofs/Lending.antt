@@ -21,14 +21,14 @@ use Rattle.state.specs.declared.State.{State}
 use Rattle.state.specs.State.{heldOf}
 use Rattle.block.specs.declared.Loaded.{Loaded}
 use Rattle.block.specs.Block.{readHeld, sameBytes, good, Loaded-as}
-use Rattle.block.specs.Layout.{SIZE, encode}
+use Rattle.places.specs.Layout.{SIZE, encode}
 use Rattle.records.specs.declared.Command.{Command}
 use Rattle.records.specs.declared.Command.the-variants as Command
 use Rattle.records.specs.declared.Decoded.{Decoded}
 use Rattle.records.specs.declared.Decoded.the-variants as Decoded
 use Rattle.records.specs.Parsed.{Parsed}
 use Rattle.records.specs.Records.{asQuestion, parse}
-use Rattle.records.specs.Formats.{bodyOf}
+use Rattle.frames.specs.Frames.{bodyOf}
 use Rattle.service.specs.declared.Lent.{Lent}
 use Rattle.reader.specs.declared.Input.{Input}
 use Rattle.commands.specs.Call.{Outcome, Refused, judged, effect, onLent, call}

@@ -5,7 +5,7 @@ use Prim.Native.Nat.{ℕ, _-_, _≤_}
 use native.Mathlib.Omega.{arith}
 use borrow.Author.Fill.{fill-none, fill-more}
 use lib.ListN.{length, drop, set, replicate, length-set}
-use Rattle.block.specs.Layout.{zeros, SIZE}
+use Rattle.places.specs.Layout.{zeros, SIZE}
 use Rattle.block.proofs.clear.Statement.{statement}
 use Rattle.block.proofs.clear.Tie as tie
 

@@ -8,7 +8,7 @@ use lib.Dec.{eqb}
 use lib.ListN.{take, getD}
 use lib.Seq.{take-all}
 use borrow.Author.Needs.{needs}
-use Rattle.block.specs.Layout.{SIZE}
+use Rattle.places.specs.Layout.{SIZE}
 use Rattle.block.specs.Block.{sameBytes}
 use Rattle.block.proofs.Equal.{same-more}
 use Rattle.block.proofs.is_copy.Statement.{statement}

@@ -1,7 +1,7 @@
 -- The stores one after the other lay the encoding, by `stored`.
 use mathlib.Core.Path.{_∙_}
 use lib.ListN.{drop}
-use Rattle.block.specs.Layout.{SIZE}
+use Rattle.places.specs.Layout.{SIZE}
 use Rattle.block.proofs.Pack.{stored}
 use borrow.Author.Needs.{needs}
 use Rattle.block.proofs.store.Statement.{statement}

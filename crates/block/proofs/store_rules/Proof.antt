@@ -7,7 +7,7 @@ use borrow.Author.Needs.{needs}
 use lib.ListN.{length, take, getD}
 use Rattle.codec.specs.Bytes.{put}
 use Rattle.codec.proofs.Laws.{put-nil}
-use Rattle.block.specs.Layout.{cat, HEADER, RULE-BYTES}
+use Rattle.places.specs.Layout.{cat, HEADER, RULE-BYTES}
 use Rattle.block.specs.Places.{placeBytesOf}
 use Rattle.block.proofs.Tab.{lay-more}
 use Rattle.block.proofs.Sizes.{place-size}

@@ -9,7 +9,7 @@ use mir.Facts.{toZ-ofZ}
 use Rattle.terms.specs.Held.{Held}
 use Rattle.state.specs.State.{heldOf}
 use Rattle.state.specs.Holding.{fresh-holds}
-use Rattle.block.specs.Layout.{SIZE, encode}
+use Rattle.places.specs.Layout.{SIZE, encode}
 use Rattle.records.specs.declared.Command.{Command}
 use Rattle.records.specs.Proper.{Proper}
 use Rattle.questions.proofs.Given.{named}

@@ -5,7 +5,7 @@ use Prim.Native.Nat.{suc, _-_}
 use native.Mathlib.Omega.{arith}
 use lib.ListN.{length}
 use Rattle.terms.specs.Limits.{LABEL-ENTRIES, LINK-ENTRIES, SPAN-NUMBERS}
-use Rattle.block.specs.Layout.{SIZE}
+use Rattle.places.specs.Layout.{SIZE}
 use Rattle.commands.specs.Buffers.{lent}
 use Rattle.harmikse.specs.Code.{Runs}
 use Rattle.harmikse.proofs.Stepped.{begins, falls}

@@ -5,7 +5,7 @@ use native.Mathlib.Omega.{arith}
 use borrow.Author.Needs.{needs}
 use lib.ListN.{length, drop, length-drop, drop-of-length-le}
 use lib.Seq.{take-all}
-use Rattle.records.specs.Records.{framed}
+use Rattle.frames.specs.Framing.{framed}
 use Rattle.reader.proofs.frame_at.Statement.{statement}
 use Rattle.reader.proofs.frame_at.Tie as tie
 

@@ -44,10 +44,10 @@ use denote.Triple.Spec.{Meets, tripleOf}
 use denote.Triple.Table.{entered, cited}
 use denote.Triple.Walked.{says, walkOf, Walks, ends-at, walked, walk-meets}
 use denote.Triple.Clauses.{ensured, lasts}
-use Rattle.records.specs.Records.{framed}
-use Rattle.records.specs.declared.Framed.{Framed}
-use Rattle.records.proofs.Framed as S
-use Rattle.records.proofs.Framed.Laws as S′
+use Rattle.frames.specs.Framing.{framed}
+use Rattle.frames.specs.declared.Framed.{Framed}
+use Rattle.frames.proofs.Framed as S
+use Rattle.frames.proofs.Framed.Laws as S′
 use Rattle.reader.specs.declared.Reader.{Reader}
 use Rattle.reader.proofs.Reader.Laws as T′
 use Rattle.reader.proofs.Held.{token, declared, laws, row, rows, sliced, struct-spells, struct-tells, struct-stays, struct-goes}

@@ -6,8 +6,8 @@ use native.Mathlib.Omega.{arith}
 use lib.Dec.{T}
 use lib.ListN.{length, drop}
 use Rattle.records.specs.Records.{decodeBody}
-use Rattle.records.specs.Formats.{allows, lengthsOf}
-use Rattle.records.specs.Frame.{framed-in}
+use Rattle.frames.specs.Frames.{allows, lengthsOf}
+use Rattle.frames.specs.Framing.{framed-in}
 use Rattle.reader.proofs.Reading.{body-at, body-allowed, body-room, read-nothing, read-refused, read-record}
 use borrow.Author.Needs.{needs}
 use Rattle.reader.proofs.parse.Statement.{statement}

@@ -5,7 +5,7 @@ use Rattle.terms.specs.Held.{isNamed}
 use Rattle.terms.specs.Otherwise.{orElse}
 use Rattle.records.specs.declared.Command.the-variants as Command
 use Rattle.records.specs.Records.{decodedAs}
-use Rattle.records.proofs.Laws.{one-test}
+use Rattle.refusals.specs.Joining.{one-test}
 use borrow.Author.Needs.{needs}
 use Rattle.records.proofs.add.Statement.{statement}
 use Rattle.records.proofs.add.Tie as tie

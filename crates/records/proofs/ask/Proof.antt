@@ -4,7 +4,7 @@ use Rattle.terms.specs.declared.Tested.{Tested}
 use Rattle.terms.specs.Held.{isQuestion}
 use Rattle.records.specs.declared.Command.the-variants as Command
 use Rattle.records.specs.Records.{decodedAs}
-use Rattle.records.proofs.Laws.{one-test}
+use Rattle.refusals.specs.Joining.{one-test}
 use borrow.Author.Needs.{needs}
 use Rattle.records.proofs.ask.Statement.{statement}
 use Rattle.records.proofs.ask.Tie as tie

@@ -9,7 +9,7 @@ use Rattle.terms.specs.Limits.{isDepth}
 use Rattle.records.specs.declared.Command.the-variants as Command
 use Rattle.records.specs.Formats.{holeTop, holeBottom}
 use Rattle.records.specs.Records.{decodedAs}
-use Rattle.records.proofs.Laws.{two-tests}
+use Rattle.refusals.specs.Joining.{two-tests}
 use borrow.Author.Needs.{needs}
 use Rattle.records.proofs.confine.Statement.{statement}
 use Rattle.records.proofs.confine.Tie as tie

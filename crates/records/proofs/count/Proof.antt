@@ -6,7 +6,7 @@ use Rattle.terms.specs.Countings.{isCounting}
 use Rattle.records.specs.declared.Command.the-variants as Command
 use Rattle.records.specs.Formats.{countingAt}
 use Rattle.records.specs.Records.{decodedAs}
-use Rattle.records.proofs.Laws.{one-test}
+use Rattle.refusals.specs.Joining.{one-test}
 use borrow.Author.Needs.{needs}
 use Rattle.records.proofs.count.Statement.{statement}
 use Rattle.records.proofs.count.Tie as tie

@@ -5,7 +5,7 @@ use native.Mathlib.Omega.{arith}
 use borrow.Author.Needs.{needs}
 use borrow.Author.Tests.{ne-eqb}
 use Rattle.records.specs.Records.{asPut, asTake, bodyTests, commandIn}
-use Rattle.records.specs.Formats.{lengthsOf}
+use Rattle.frames.specs.Frames.{lengthsOf}
 use Rattle.records.proofs.Laws.{sized}
 use Rattle.records.proofs.decode_body.Statement.{statement}
 use Rattle.records.proofs.decode_body.Tie as tie

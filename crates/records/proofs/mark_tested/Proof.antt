@@ -1,6 +1,6 @@
 -- The three tests in their order: `three-tests`. Assumes nothing.
 use Rattle.terms.specs.Held.{isMarkable, isPlaced, isOrdered}
-use Rattle.records.proofs.Laws.{three-tests}
+use Rattle.refusals.specs.Joining.{three-tests}
 use borrow.Author.Needs.{needs}
 use Rattle.records.proofs.mark_tested.Statement.{statement}
 use Rattle.records.proofs.mark_tested.Tie as tie

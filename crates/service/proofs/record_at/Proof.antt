@@ -8,7 +8,7 @@ use Rattle.state.specs.State.{heldOf}
 use Rattle.block.specs.Block.{readHeld}
 use Rattle.records.specs.Parsed as Parsed
 use Rattle.records.specs.Records.{parse}
-use Rattle.records.specs.Formats.{bodyOf}
+use Rattle.frames.specs.Frames.{bodyOf}
 use Rattle.records.specs.Proper.{parse-proper}
 use Rattle.reader.specs.declared.Input.{Input}
 use Rattle.commands.specs.Call.{judged, effect, call}

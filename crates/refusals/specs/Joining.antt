@@ -1,0 +1,31 @@
+-- Tests as the code joins them, and as the table has them. Assumes nothing.
+use mathlib.Core.Path.{_≡_, refl}
+use mathlib.Core.Bool.{Bool, true, false, not, cond}
+use mathlib.Core.List.{[], _∷_}
+use Prim.Native.Nat.{ℕ}
+use Rattle.terms.specs.declared.Tested.the-variants as Tested
+use Rattle.terms.specs.Otherwise.{orElse}
+use Rattle.refusals.specs.Refusals.{test, tested}
+
+-- one test
+pub one-test : (p : Bool) (n : ℕ) → cond p Tested.Passed (Tested.Refused n) ≡ tested (test (not p) n ∷ [])
+one-test true n = refl
+one-test false n = refl
+
+-- one test, then another
+pub two-tests :
+    (p q : Bool) (m n : ℕ) → orElse (cond p Tested.Passed (Tested.Refused m)) (cond q Tested.Passed (Tested.Refused n))
+    ≡ tested (test (not p) m ∷ test (not q) n ∷ [])
+two-tests true true m n = refl
+two-tests true false m n = refl
+two-tests false q m n = refl
+
+-- one test, then another, then a third
+pub three-tests :
+    (p q r : Bool) (l m n : ℕ) →
+    orElse (cond p Tested.Passed (Tested.Refused l)) (orElse (cond q Tested.Passed (Tested.Refused m)) (cond r Tested.Passed (Tested.Refused n)))
+    ≡ tested (test (not p) l ∷ test (not q) m ∷ test (not r) n ∷ [])
+three-tests true true true l m n = refl
+three-tests true true false l m n = refl
+three-tests true false r l m n = refl
+three-tests false q r l m n = refl
