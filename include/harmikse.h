@@ -26,8 +26,8 @@
  * where its length is 0, and nowhere else: nothing is read or written there then. used is never NULL.
  *
  * Threads: calls on different memory are independent and may run at once. Memory that is lent to a call belongs to that
- * call until it returns; a block belongs to one call at a time. harmikse_spans only reads the block, so calls of it may
- * share a block while no harmikse_record has it, each with tables and span buffer of its own.
+ * call until it returns, and to no other call, with one exception: harmikse_spans only reads the block, so calls of it
+ * may share a block while no harmikse_record has it, each with tables and span buffer of its own.
  *
  * Records: a 2-byte length, a 2-byte kind, the body. Every number is little-endian; signed ones are two's complement.
  * The length field counts kind and body and not itself, so that a record has length + 2 bytes. Fields are one byte
@@ -36,10 +36,10 @@
  *
  *   kind    name                 body                              length field
  *   1       RESET                none                              2
- *   2       LABEL                code, n, A, B                     9   B where the operator on A gives the depth
- *   3       BOTH                 A, B, C                           5   C where A and B are
- *   4       LINKRULE             code, n, r, s                     9   link s where the operator on link r gives the depth
- *   5       VIA                  r, A, B                           5   B on an item with link r to one that has A
+ *   2       LABEL                code, n, A, B                     9
+ *   3       BOTH                 A, B, C                           5
+ *   4       LINKRULE             code, n, r, s                     9
+ *   5       VIA                  r, A, B                           5
  *   6, 8    PUT, TAKE label      item, label, depth                8
  *   7, 9    PUT, TAKE link       from, link kind, to, depth        9
  *   10      QUERY label          item, label, depth                12
@@ -51,17 +51,26 @@
  *   18      HOLE                 top, bottom                       10
  *
  * Items are 0 to 15, link kinds 0 to 7, labels 0 to 63: 0 is EVERY, which holds for every item at every depth, 63 is
- * NEVER, which may hold nowhere. A rule's left labels are 0 to 62 and its concluded label 1 to 63, marked labels are 1
- * to 62, and any may be asked about. Codes: 1 WITHIN, with n from 1 to 300,000; with n = 0 2 BETWEEN, 3 ABOVE, 4
- * BELOW, 5 ANYWHERE. On the depths of a label or a link WITHIN gives those from one to another that lies near enough,
- * BETWEEN those from the least to the greatest, ABOVE all up to the greatest, BELOW all from the least on, ANYWHERE all;
- * on none each gives none. Depths of marks and holes are -10,000 to 200,000, larger is deeper; a question may name any.
+ * NEVER, which may hold nowhere. A link may lead from an item to itself. A rule's left labels are 0 to 62 and its
+ * concluded label 1 to 63, marked labels are 1 to 62, and any may be asked about. Codes: 1 WITHIN, with n from 1 to
+ * 300,000; with n = 0 2 BETWEEN, 3 ABOVE, 4 BELOW, 5 ANYWHERE. On the depths of a label or a link WITHIN gives those
+ * from one to another that lies near enough, BETWEEN those from the least to the greatest, ABOVE all up to the
+ * greatest, BELOW all from the least on, ANYWHERE all; on none each gives none, and depths without a least or a
+ * greatest have no end on that side. Depths of marks and holes are -10,000 to 200,000, larger is deeper; a question may
+ * name any.
+ *
+ * Rules: LABEL gives an item B at each depth that the operator gives on the depths of its A. BOTH gives an item C at
+ * each depth where it has A and B. LINKRULE gives link s from one item to another at each depth that the operator gives
+ * on the depths of link r between these two, that way round. VIA gives an item B at each depth where link r leads from
+ * it to an item that has A at this same depth. Rules are used until nothing new follows. At most 128 are held; two are
+ * the same if they have the same kind and all fields equal, so BOTH 1 2 3 and BOTH 2 1 3 are two.
  *
  * Marks: a mark has a top and a bottom, from -10,000 to 200,000 cm, and is true at each depth from one to the other.
  * Kinds 6 and 7 put a label and a link with both at one depth, and kinds 8 and 9 take them. Kinds 13 and 14 put a
  * label and a link with top and bottom, and kinds 15 and 16 take them. Two marks are the same if all their fields
- * are, by whichever kind they come: kind 8 takes what kind 13 put with both ends equal. At most 96 depths are marked:
- * tops and bottoms, each depth once; what lies between is not marked.
+ * are, by whichever kind they come: kind 8 takes what kind 13 put with both ends equal. What is only derived is not
+ * held, and cannot be taken. At most 256 marks are held, and at most 96 depths are marked: tops and bottoms, each depth
+ * once; what lies between is not marked.
  *
  * Counting: WITHIN n fills from j to k where k - j < n by the old counting, and where k - j <= n by the new one. Kind
  * 17 sets it; a byte other than 1 and 2 is refused with 7. Send it before the rules: while a rule is held it is refused
@@ -71,9 +80,9 @@
  * included: EVERY holds there alone, each operator gives depths of the hole alone, and a question outside is answered
  * no, or contradiction, which goes first. The pieces are those of the hole: the first begins at its top, the last ends
  * at its bottom. The hole's ends are no marked depths. A mark to put that reaches outside is refused with 16. Send kind
- * 18 before the marks: while a mark is held it is refused with 17, whichever hole it gives; rules don't matter. A later
- * hole replaces the one before, and it stays when the last mark is taken. The empty state has no hole, and RESET goes
- * back to that.
+ * 18 before the marks: while a mark is held any hole, the one in force too, is refused with 17; rules don't matter. A
+ * later hole replaces the one before, and it stays when the last mark is taken. The empty state has no hole, and RESET
+ * goes back to that.
  *
  * Contradiction: a question is about its item, a link question about both its ends. Items are joined where a chain of
  * links leads from one to the other, held or derived, of any kind, followed either way, at any depths; an item is
@@ -85,8 +94,9 @@
  *
  * Stack: leave 176 KiB for a call (HARMIKSE_STACK_BYTES).
  *
- * Refusals leave all lent memory unchanged. After a question (yes, no, contradiction, spans) both tables show what the
- * held marks and rules derive; after anything else they are as lent. Only an answer of spans writes the span buffer.
+ * Refusals leave all lent memory unchanged, and so does end. Only an answer of done changes the block; RESET makes its
+ * first HARMIKSE_BLOCK_BYTES all zeros. After a question (yes, no, contradiction, spans) both tables show what the held
+ * marks and rules derive; after anything else they are as lent. Only an answer of spans writes the span buffer.
  */
 #ifndef HARMIKSE_H
 #define HARMIKSE_H
@@ -140,7 +150,7 @@ enum harmikse_refusal {
     HARMIKSE_BAD_OPERATOR = 7,   /* code or n out of range, or a counting other than 1 and 2 */
     HARMIKSE_BAD_DEPTH = 8,      /* a mark's depth, top or bottom, or an end of a hole, out of range */
     HARMIKSE_ALREADY_HELD = 9,   /* a rule, or a mark to put */
-    HARMIKSE_NOT_HELD = 10,      /* a mark to take */
+    HARMIKSE_NOT_HELD = 10,      /* a mark to take; what is only derived is not held */
     HARMIKSE_LIST_FULL = 11,     /* 128 rules or 256 marks */
     HARMIKSE_DEPTHS_FULL = 12,   /* a mark with which tops and bottoms would be at more than 96 depths */
     HARMIKSE_BAD_STRETCH = 14,   /* a mark's or a hole's top deeper than its bottom; tested after 8 and before 16 */
@@ -151,10 +161,10 @@ enum harmikse_refusal {
 
 /*
  * Takes one record from the start of the input, where input is all the bytes that are left, and says in *used how many
- * bytes it used: go on with input + *used. 0 bytes are used for the refusals 1 and 2 and for end, so a loop stops there:
- * the same call would give the same again. All that is left is used for 3, also where the rest of a record is still to
- * come: hand over whole records. For every other refusal and every accepted record it is length field + 2. Where no byte
- * is left input may be NULL.
+ * bytes it used: go on with input + *used. 0 bytes are used for the refusals 1 and 2 and for end, so a loop stops
+ * there: the same call would give the same again. All that is left is used for 3, also where the rest of a record is
+ * still to come: hand over whole records. For every other refusal and every accepted record it is length field + 2.
+ * Where no byte is left input may be NULL.
  */
 uint32_t harmikse_record(uint8_t *block, size_t block_len,
                          uint64_t *labels, size_t labels_len,
@@ -164,8 +174,8 @@ uint32_t harmikse_record(uint8_t *block, size_t block_len,
                          uint64_t *used);
 
 /*
- * Asks for the spans of a label of an item, as the record SPANS does, without a record. Answers spans or contradiction, or
- * is refused with 1, 2, or 6 for an item over 15 or a label over 63. The block is never written.
+ * Asks for the spans of a label of an item, as the record SPANS does, without a record. Answers spans or contradiction,
+ * or is refused with 1, 2, or 6 for an item over 15 or a label over 63. The block is never written.
  */
 uint32_t harmikse_spans(const uint8_t *block, size_t block_len,
                         uint64_t *labels, size_t labels_len,

@@ -7,7 +7,7 @@ use native.Mathlib.Omega.{arith}
 use borrow.Author.Tests.{eq-eqb}
 use lib.Dec.{T, eqb, eqb→eq}
 use lib.ListN.{length, getD, take}
-use Rattle.terms.specs.Tests.{and-both}
+use Rattle.terms.specs.Tests.{and-both, and-true, and-assoc}
 use Rattle.block.specs.Block.{sameBytes}
 
 pub sameBytes-refl : (xs : List ℕ) → sameBytes xs xs ≡ true
@@ -25,14 +25,6 @@ sameBytes-true (x ∷ xs) (y ∷ ys) t =
     let p : x ≡ y = eqb→eq x y (w .0) in
     let q : xs ≡ ys = sameBytes-true xs ys (w .1) in
     cc
-
-and-true : (b : Bool) → b && true ≡ b
-and-true true = refl
-and-true false = refl
-
-and-assoc : (a b c : Bool) → a && (b && c) ≡ (a && b) && c
-and-assoc true b c = refl
-and-assoc false b c = refl
 
 -- one byte more
 pub same-more : (xs ys : List ℕ) (i : ℕ) → i < length xs → i < length ys →

@@ -1,5 +1,4 @@
 pub mod Tab
-pub mod Sizes
 pub mod Pack
 pub mod Equal
 pub mod Loading

@@ -29,9 +29,9 @@ use Rattle.places.specs.Layout.{
   padded,
   encode,
 }
+use Rattle.places.specs.Sizes.{settings-size, rule-size, mark-size, length-zeros}
 use Rattle.block.specs.Places.{placeBytesOf}
 use Rattle.block.proofs.Tab.{cat-map, length-cat}
-use Rattle.block.proofs.Sizes.{settings-size, place-size, mark-size, length-zeros}
 
 pub zeros-add : (a b : ℕ) → zeros a ++ zeros b ≡ zeros (a + b)
 unfolding zeros
@@ -169,7 +169,7 @@ module _ (s : State) (in-places : Counts-in s) where
   marks-many = length-take-le (s .«mark_count») (s .marks) (omega (arith, in-places .mark-places, in-places .few-marks))
 
   places-fit : length (cat placeBytesOf places) ≤ RULES * RULE-BYTES
-  places-fit = omega (arith, length-cat placeBytesOf RULE-BYTES place-size places, places-many, in-places .few-rules)
+  places-fit = omega (arith, length-cat placeBytesOf RULE-BYTES (λ p. rule-size (p .rule)) places, places-many, in-places .few-rules)
 
   marks-fit : length (cat markBytes marks) ≤ MARKS * MARK-BYTES
   marks-fit = omega (arith, length-cat markBytes MARK-BYTES mark-size marks, marks-many, in-places .few-marks)

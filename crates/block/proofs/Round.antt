@@ -25,7 +25,7 @@ use Rattle.terms.specs.declared.Rule.the-variants.{Label, Both, Link, Via}
 use Rattle.terms.specs.declared.Atom.{Atom}
 use Rattle.terms.specs.declared.Atom.the-variants.{Has, Linked}
 use Rattle.terms.specs.declared.Mark.{Mark}
-use Rattle.terms.specs.Tests.{and-both, true-of}
+use Rattle.terms.specs.Tests.{and-both, true-of, differ}
 use Rattle.terms.specs.declared.Settings.{Settings}
 use Rattle.terms.specs.Limits.{RULES, MARKS, isDepth}
 use Rattle.terms.specs.Holes.{isHole}
@@ -56,10 +56,10 @@ use Rattle.places.specs.Layout.{
   padded,
   encode,
 }
+use Rattle.places.specs.Sizes.{settings-length, settings-size, rule-size, mark-size, length-padded}
 use Rattle.places.specs.Read.{countingFrom, holeFrom, settingsAt, ruleOf, ruleRead, markOf, markRead}
 use Rattle.block.specs.Block.{tab, readHeld, sameBytes, unreadable, holds, good, decode}
 use Rattle.block.proofs.Tab.{tab-is, cat-get, length-cat}
-use Rattle.block.proofs.Sizes.{settings-length, settings-size, rule-size, mark-size, length-padded}
 use Rattle.block.proofs.Pack.{zeros-add}
 use Rattle.block.proofs.Equal.{sameBytes-refl, sameBytes-true}
 
@@ -358,7 +358,4 @@ decode-holds b h e = go (limits (readHeld b) && sameBytes (encode (readHeld b)) 
         let w = and-both (limits (readHeld b)) (sameBytes (encode (readHeld b)) (take SIZE b)) (f tt) in
         let r : readHeld b ≡ h = cc in
         (subst (λ (x : Held). T (limits x)) r (w .0), sym (sameBytes-true (encode (readHeld b)) (take SIZE b) (w .1)) ∙ ap encode r)
-    go false f e = let z : _≡_ {A = ℕ} 0 1 = cc in absurd (differ z)
-      where
-        differ : _≡_ {A = ℕ} 0 1 → ⊥
-        differ z = omega arith
+    go false f e = differ (cc)

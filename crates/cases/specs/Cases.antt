@@ -1,4 +1,4 @@
--- The cases that 01 marks P, and 02's beside them: one table.
+-- The cases that 01 marks P, readings of its operators and rules, and 02's beside them: one table.
 use mathlib.Core.List.{List, [], _∷_, _++_}
 use Prim.Native.Nat.{ℕ, zero, suc, _-_, _^_}
 use lib.IntN.{ℤ, pos, negsuc}
@@ -81,6 +81,12 @@ has-runs ms rs = on [] ms (Question.Spans 0 1) (Answered (Spans rs))
 abbrev pub has-at : List Mark → ℕ → Reply → Case
 has-at ms i = on [] ms (Question.Holds (Has 0 1) (pos i))
 
+-- a stretch taken behind four from which each other differs in one field: top, bottom, label, item
+abbrev pub untaken : List Mark
+untaken =
+    strike (sameMark (stretch 1 10 20))
+    (stretch 1 15 20 ∷ stretch 1 10 12 ∷ stretch 2 10 20 ∷ record { atom = Has 1 1; top = pos 10; bottom = pos 20 } ∷ stretch 1 10 20 ∷ [])
+
 -- whether there is this link at 5 where the last of four was taken, from which each other differs in one name
 abbrev pub untied : Atom → Reply → Case
 untied x =
@@ -115,8 +121,7 @@ stretches =
     ∷ has-runs (strike (sameMark (stretch 1 10 20)) (stretch 1 10 20 ∷ stretch 1 20 30 ∷ [])) (run (pos 20) (pos 30) ∷ [])
     ∷ has-at (strike (sameMark (stretch 1 10 20)) (stretch 1 10 20 ∷ stretch 1 20 30 ∷ [])) 20 (Answered Yes)
     ∷ has-at (strike (sameMark (stretch 1 10 20)) (stretch 1 10 20 ∷ stretch 1 20 30 ∷ [])) 19 (Answered No)
-    ∷ has-runs (strike (sameMark (stretch 1 10 20)) (stretch 1 5 20 ∷ stretch 1 10 30 ∷ stretch 2 10 20 ∷ label 1 1 (pos 40) ∷ stretch 1 10 20 ∷ []))
-    (run (pos 5) (pos 30) ∷ [])
+    ∷ has-runs untaken (run (pos 10) (pos 12) ∷ run (pos 15) (pos 20) ∷ [])
     ∷ untied (Linked 2 0 1) (Answered Yes)
     ∷ untied (Linked 0 1 1) (Answered Yes)
     ∷ untied (Linked 0 0 2) (Answered Yes)
@@ -357,8 +362,8 @@ twice o p rs = on (Label o 1 2 ∷ Label p 2 3 ∷ []) (label 0 1 (pos 5) ∷ []
 abbrev pub ringed : Operator → ℕ → Reply → Case
 ringed o i = on (Link o 0 1 ∷ []) (link 0 0 0 (pos 10) ∷ link 0 0 0 (pos 20) ∷ []) (Question.Holds (Linked 0 1 0) (pos i))
 
--- 01, Operators, Rules of derivation and Wrong readings: rules that stand against the order in which they are used; operators on sets without an end;
--- each on links, of an item to itself; VIA along the second of two links
+-- 01, Operators, Rules of derivation and Wrong readings: rules that stand against the order in which they are used; operators on sets without an end, also
+-- with a gap in them; ABOVE, BELOW and BETWEEN on links of an item to itself; VIA along the second of two links; BOTH on two items
 abbrev pub readings : List Case
 readings =
     on (Label (Within 1) 3 4 ∷ Label (Within 1) 2 3 ∷ Label (Within 1) 1 2 ∷ []) (label 0 1 (pos 5) ∷ []) (Question.Holds (Has 0 4) (pos 5)) (Answered Yes)
@@ -375,6 +380,10 @@ readings =
     ∷ ringed Between 9 (Answered No)
     ∷ ringed Between 21 (Answered No)
     ∷ on (Via 0 2 3 ∷ []) (link 0 0 1 (pos 10) ∷ link 0 0 2 (pos 10) ∷ label 2 2 (pos 10) ∷ []) (Question.Holds (Has 0 3) (pos 10)) (Answered Yes)
+    ∷ on (Label Above 1 3 ∷ Label Below 2 3 ∷ Label Between 3 4 ∷ []) (label 0 1 (pos 10) ∷ label 0 2 (pos 20) ∷ []) (Question.Spans 0 4)
+    (Answered (Spans (run NO-TOP NO-BOTTOM ∷ [])))
+    ∷ on (Both 1 2 3 ∷ []) (label 0 1 (pos 5) ∷ label 1 2 (pos 5) ∷ []) (Question.Holds (Has 0 3) (pos 5)) (Answered No)
+    ∷ on (Both 1 2 3 ∷ []) (label 0 1 (pos 5) ∷ label 1 2 (pos 5) ∷ []) (Question.Holds (Has 1 3) (pos 5)) (Answered No)
     ∷ []
 
 -- and these behind them; then 02's

@@ -1,5 +1,5 @@
--- The cases that 01 marks P are decided as it says, and 02's beside them: one theorem, about the definition by interpretations of the items
--- concerned, over the depths that exist. Assumes nothing.
+-- The cases that 01 marks P are decided as it says, and so are the readings of its rules and 02's cases beside them: one theorem, about the definition
+-- by interpretations of the items concerned, over the depths that exist. Assumes nothing.
 use mathlib.Core.Path.{_≡_, refl, sym, subst}
 use mathlib.Core.Logic.{⊎-elim}
 use mathlib.Core.Bool.{Bool}
@@ -97,7 +97,7 @@ each (k ∷ cs) t c m =
     (List·Memᴰ·cases-cons m)
 
 -- no row went missing
-pub all-rows : length cases ≡ 231
+pub all-rows : length cases ≡ 234
 all-rows = refl
 
 pub worked-cases : (c : Case) → c ∈ cases → Decides (c .held) (c .question) (c .reply)

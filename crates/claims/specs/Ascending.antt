@@ -9,19 +9,13 @@ use lib.Dec.{T, leb, leb→le}
 use Rattle.terms.specs.declared.Tested.{Tested}
 use Rattle.terms.specs.declared.Tested.the-variants as Tested
 use Rattle.refusals.specs.Refusals.{rank, Test, tested}
+use Rattle.refusals.specs.Joining.{clash}
 use Rattle.terms.specs.Tests.{and-both}
 use Rattle.terms.specs.Otherwise.{orElse}
 use Rattle.terms.specs.Held.{_∈_}
 use Rattle.claims.specs.Table.{Ascends}
 
--- two constructors are not one
-pub differ : {A : Type 0} → _≡_ {A = ℕ} 0 1 → A
-differ e = let z : ⊥ = omega arith in absurd z
-
 -- ---- what tests come to
-
-pub clash : {A : Type 0} {n : ℕ} → Tested.Passed ≡ Tested.Refused n → A
-clash e = differ (cc)
 
 pub same-number : {n k : ℕ} → Tested.Refused n ≡ Tested.Refused k → n ≡ k
 same-number e = cc

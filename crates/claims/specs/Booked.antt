@@ -20,6 +20,7 @@ use Rattle.terms.specs.Held.{Held, withRules, withMarks, withCounting, withHole
 use Rattle.terms.specs.Limited.{InRange}
 use Rattle.terms.specs.Lists.{strike}
 use Rattle.refusals.specs.Refusals.{rank, tested, test, Test}
+use Rattle.refusals.specs.Joining.{clash}
 use Rattle.terms.specs.Same.{sameMark}
 use Rattle.records.specs.declared.Command.{Command}
 use Rattle.records.specs.declared.Command.the-variants as Command
@@ -31,7 +32,6 @@ use Rattle.decide.specs.Decide.{answer-decides}
 use Rattle.decide.specs.Answer.{answer}
 use Rattle.commands.specs.Buffers.{isShort}
 use Rattle.commands.specs.Call.{Outcome, Refused, Ended, Changed, Asked, obey, judged}
-use Rattle.claims.specs.Ascending.{clash}
 use Rattle.claims.specs.Table.{
   Counts,
   Confines,

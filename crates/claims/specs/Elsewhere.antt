@@ -17,6 +17,7 @@ use Rattle.terms.specs.Held.{Held, withMarks, isQuestion}
 use Rattle.terms.specs.Limited.{limited, in-range}
 use Rattle.terms.specs.Pairs.{pairsOf}
 use Rattle.terms.specs.Spans.{flat}
+use Rattle.terms.specs.Tests.{differ}
 use Rattle.spans.specs.Longest.{flat-length}
 use Rattle.refusals.specs.Refusals.{test, tested}
 use Rattle.frames.specs.Frames.{kindField, lengthField, bodyOf}
@@ -28,7 +29,6 @@ use Rattle.commands.specs.Buffers.{Buffers, After, short}
 use Rattle.commands.specs.Call.{replied, call, spanCall}
 use Rattle.claims.specs.Table.{Asks, said, brokenFrame, unknownKind, wrongLength, saidRows, inputRows, table}
 use Rattle.claims.specs.Tells.{Tells-same}
-use Rattle.claims.specs.Ascending.{differ}
 use Rattle.claims.specs.Beside.{spansRecord, unused}
 use Rattle.claims.specs.Exact.{Holding, Asking}
 use Rattle.claims.specs.Exactly.{asked-call}

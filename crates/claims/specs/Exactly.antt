@@ -17,7 +17,7 @@ use Rattle.terms.specs.declared.Question.{Question}
 use Rattle.terms.specs.declared.Question.the-variants as Question
 use Rattle.terms.specs.declared.Tested.{Tested}
 use Rattle.terms.specs.declared.Tested.the-variants as Tested
-use Rattle.terms.specs.Tests.{true-of, of-true}
+use Rattle.terms.specs.Tests.{true-of, of-true, differ}
 use Rattle.terms.specs.Limits.{LABEL-ENTRIES, LINK-ENTRIES}
 use Rattle.terms.specs.Held.{Held}
 use Rattle.logic.specs.Depths.{Derived}
@@ -42,7 +42,6 @@ use Rattle.commands.specs.Buffers.{Buffers, After, after, short}
 use Rattle.questions.specs.Code.{spansAfter}
 use Rattle.commands.specs.Code.{replied-is}
 use Rattle.commands.specs.Call.{Ended, obey, filled, replied, effect, call}
-use Rattle.claims.specs.Ascending.{differ}
 use Rattle.claims.specs.Table.{Asks, table}
 use Rattle.claims.specs.Exact.{feeding, Holding, Asking, Runs-written, Told-by, Exact}
 use Rattle.claims.specs.Kinds.{saidOf}

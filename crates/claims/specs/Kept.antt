@@ -21,6 +21,7 @@ use Rattle.terms.specs.Held.{Held, holeIn, endsOf, withSettings, withCounting, 
 use Rattle.terms.specs.Same.{sameRule, sameMark}
 use Rattle.terms.specs.SameLaws.{same-rule, rule-same, same-mark, mark-same}
 use Rattle.terms.specs.Lists.{some, every, strike, once, depthCount}
+use Rattle.terms.specs.Tests.{differ}
 pub use Rattle.terms.specs.Limited.{
   some-in,
   in-some,
@@ -41,7 +42,7 @@ use Rattle.state.specs.Changes.{ruleTests, roomTests, putTests, confineTests, a
 -- ---- a test that does not apply
 
 pub passed : (b : Bool) (n : ℕ) (ts : List Test) → tested (test b n ∷ ts) ≡ Tested.Passed → T (not b) × (tested ts ≡ Tested.Passed)
-passed true n ts e = let z : _≡_ {A = ℕ} 0 1 = cc in let w : ⊥ = omega arith in absurd w
+passed true n ts e = differ (cc)
 passed false n ts e = (tt, e)
 
 every-snoc : {X : Type 0} (f : X → Bool) (xs : List X) (x : X) → T (every f xs) → T (f x) → T (every f (xs ++ (x ∷ [])))

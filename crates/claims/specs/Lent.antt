@@ -16,6 +16,7 @@ use Rattle.terms.specs.declared.Tested.the-variants as Tested
 use Rattle.terms.specs.Tests.{and-both, of-true}
 use Rattle.terms.specs.Limits.{LABEL-ENTRIES, LINK-ENTRIES}
 use Rattle.refusals.specs.Refusals.{test, tested}
+use Rattle.refusals.specs.Joining.{clash}
 use Rattle.terms.specs.Otherwise.{onTested}
 use Rattle.terms.specs.Held.{Held}
 use Rattle.terms.specs.Lists.{limits}
@@ -35,7 +36,6 @@ use Rattle.commands.specs.Buffers.{Buffers, after, short}
 use Rattle.commands.specs.Code.{Enough, enough}
 use Rattle.terms.specs.Pairs.{pairCount}
 use Rattle.claims.specs.Memory.{Written-in, Lent-kept}
-use Rattle.claims.specs.Ascending.{clash}
 use Rattle.claims.specs.Kept.{Limited, limited, few-cuts}
 use Rattle.claims.specs.Life.{Stays-limited, judged-limited}
 use Rattle.claims.specs.Whole.{laws}

@@ -25,3 +25,4 @@ pub mod Elsewhere
 pub mod Values
 pub mod OneCall
 pub mod Claimed
+pub mod OneReply

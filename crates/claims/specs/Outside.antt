@@ -2,13 +2,20 @@
 use mathlib.Core.Path.{_≡_, refl, sym, ap, _∙_, subst}
 use mathlib.Core.Logic.{_⊎_, ⊎-elim, inl, inr}
 use mathlib.Core.List.{List, [], _∷_, List·Memᴰ·head, List·Memᴰ·tail, List·Memᴰ·cases-cons, List·Memᴰ·not-nil}
-use Prim.Native.Nat.{ℕ, _+_}
+use Prim.Native.Nat.{ℕ, _+_, _*_}
+use lib.Dec.{T}
 use lib.IntN.{ℤ}
+use lib.Signed.{_<ℤ_}
+use lib.ListN.{take}
 use Rattle.terms.specs.declared.Answer.the-variants as Answer
 use Rattle.terms.specs.declared.Atom.{Atom}
 use Rattle.terms.specs.declared.Atom.the-variants.{Has}
+use Rattle.terms.specs.declared.Hole.the-variants.{Part}
 use Rattle.terms.specs.declared.Question.the-variants as Question
-use Rattle.terms.specs.Holes.{InHole}
+use Rattle.terms.specs.Order.{ints}
+use Rattle.terms.specs.Limits.{NO-TOP, NO-BOTTOM}
+use Rattle.terms.specs.Holes.{InHole, isHole}
+use Rattle.terms.specs.HoleLaws.{part-ends, good-part}
 use Rattle.terms.specs.Held.{_∈_, Held, holeIn}
 use Rattle.logic.specs.Inside.{derived-inside}
 use Rattle.logic.specs.Depths.{Derived}
@@ -56,3 +63,12 @@ spans-answered m s h a A n k e i o =
     let (r, u, d) = flat-in (w .runs) i (subst (λ l. i ∈ l) (w .written) o) in
     let v = run-ends (Derived h (Has a A)) (w .runs) (w .longest) r u in
     ⊎-elim (λ c. subst (InHole (holeIn h)) (sym c) (derived-inside h (v .0))) (λ c. subst (InHole (holeIn h)) (sym c) (derived-inside h (v .1))) d
+
+-- so in a hole no number of them means no end: its ends lie where marks lie
+pub spans-ended :
+    (m : Buffers) (s : List ℕ) (h : Held) (a A n : ℕ) (t b : ℤ) → Asking m s h (Question.Spans a A) → call m s .answer ≡ Answer.Spans n →
+    holeIn h ≡ Part t b → (i : ℤ) → i ∈ take (2 * n) (call m s .buffers .spans) → (NO-TOP <ℤ i) × (i <ℤ NO-BOTTOM)
+spans-ended m s h a A n t b k e f i o =
+    let w = part-ends t b i (subst (λ H. InHole H i) f (spans-answered m s h a A n k e i o)) in
+    let g = good-part t b (subst (λ H. T (isHole H)) f (in-range h (limited h (k .block .within)) .hole)) in
+    (omega (ints, w .0, g .top-low), omega (ints, w .1, g .bottom-high))

@@ -15,6 +15,7 @@ use Rattle.terms.specs.declared.Tested.{Tested}
 use Rattle.terms.specs.declared.Tested.the-variants as Tested
 use Rattle.refusals.specs.Refusals.{order, rank, Test, test, tested}
 use Rattle.refusals.specs.Ranks.{rank-ordered, rank-number, rank-lower}
+use Rattle.terms.specs.Tests.{differ}
 use Rattle.terms.specs.Otherwise.{onTested, orElse}
 use Rattle.terms.specs.Held.{_∈_, Held}
 use Rattle.block.specs.Block.{readHeld, good}
@@ -31,7 +32,6 @@ use Rattle.commands.specs.Buffers.{Buffers, After, after, short}
 use Rattle.commands.specs.Code.{replied-is}
 use Rattle.commands.specs.Call.{Outcome, Refused, Ended, heldTests, obey, judged, effect, call}
 use Rattle.claims.specs.Ascending.{
-  differ,
   same-number,
   tested-append,
   tested-applies,

@@ -17,6 +17,7 @@ use Rattle.terms.specs.declared.Tested.the-variants as Tested
 use Rattle.terms.specs.Tests.{true-of}
 use Rattle.terms.specs.Held.{Held, isQuestion}
 use Rattle.refusals.specs.Refusals.{test, tested}
+use Rattle.refusals.specs.Joining.{clash}
 use Rattle.terms.specs.Otherwise.{onTested}
 use Rattle.block.specs.Block.{readHeld, good}
 use Rattle.records.specs.declared.Command.the-variants as Command
@@ -30,7 +31,7 @@ use Rattle.decide.specs.Answer.{answer}
 use Rattle.commands.specs.Buffers.{Buffers, After, after, short}
 use Rattle.commands.specs.Code.{replied-is}
 use Rattle.commands.specs.Call.{lentTests, judged, replied, effect, onLent, call, spanCall}
-use Rattle.claims.specs.Ascending.{clash, same-number}
+use Rattle.claims.specs.Ascending.{same-number}
 use Rattle.claims.specs.Refused.{reply-accepts}
 use Rattle.claims.specs.Table.{saidBy}
 use Rattle.claims.specs.Beside.{spansRecord, unused, spanRows}

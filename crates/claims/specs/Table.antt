@@ -19,7 +19,25 @@ use Rattle.terms.specs.Lists.{some, depthCount}
 use Rattle.block.specs.Block.{readHeld, good}
 use Rattle.commands.specs.Buffers.{Buffers, short}
 use Rattle.frames.specs.Frames.{lengthField, kindField, bodyOf, allows, isUnknown, lengthsOf}
-use Rattle.records.specs.Formats.{operatorAt, isInvalid, labelRule, bothRule, linkRule, viaRule, labelMark, linkMark, labelStretch, linkStretch, countingAt, isNoCounting, holeTop, holeBottom, labelQuestion, linkQuestion, spansQuestion}
+use Rattle.records.specs.Formats.{
+  operatorAt,
+  isInvalid,
+  labelRule,
+  bothRule,
+  linkRule,
+  viaRule,
+  labelMark,
+  linkMark,
+  labelStretch,
+  linkStretch,
+  countingAt,
+  isNoCounting,
+  holeTop,
+  holeBottom,
+  labelQuestion,
+  linkQuestion,
+  spansQuestion,
+}
 
 -- 02: what is set until RESET; Slip 4: the counting; Slip 5: the hole, by its top and bottom
 pub data Setting : Type 0 where

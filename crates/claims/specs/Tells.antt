@@ -5,7 +5,7 @@ use lib.ListN.{take}
 use Rattle.terms.specs.declared.Answer.the-variants as Answer
 use Rattle.commands.specs.Buffers.{After}
 
--- two calls tell the same: the answer with its item or its number, and each span that is written
+-- two calls tell the same: the answer with its item or its count, and each span that is written
 pub record Tells-same (r k : After) : Type 0 where
   pub answer : r .answer ≡ k .answer
   pub spans : (n : ℕ) → r .answer ≡ Answer.Spans n → take (2 * n) (r .buffers .spans) ≡ take (2 * n) (k .buffers .spans)

@@ -10,11 +10,11 @@ use Rattle.terms.specs.declared.Tested.the-variants as Tested
 use Rattle.refusals.specs.Refusals.{tested}
 use Rattle.terms.specs.Otherwise.{onTested}
 use Rattle.terms.specs.Held.{Held}
+use Rattle.terms.specs.Tests.{differ}
 use Rattle.block.specs.Block.{readHeld}
 use Rattle.records.specs.Records.{parse}
 use Rattle.decide.specs.Answer.{answer}
 use Rattle.decide.specs.Decides.{Yes, No, Spans, Reply, Contradiction, Answered}
-use Rattle.claims.specs.Ascending.{differ}
 use Rattle.claims.specs.Memory.{Keeps}
 use Rattle.commands.specs.Call.{lentTests, Outcome, Refused, Ended, Changed, Asked, judged, replied, effect, call}
 use Rattle.commands.specs.Buffers.{Buffers, after}

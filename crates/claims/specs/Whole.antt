@@ -10,7 +10,7 @@ use lib.ListN.{length, take, length-append}
 use lib.Seq.{take-at}
 use Rattle.terms.specs.declared.Answer.the-variants as Answer
 use Rattle.codec.specs.Bytes.{bytes}
-use Rattle.terms.specs.Tests.{true-of, of-true}
+use Rattle.terms.specs.Tests.{true-of, of-true, differ}
 use Rattle.terms.specs.declared.Tested.the-variants as Tested
 use Rattle.refusals.specs.Refusals.{tested}
 use Rattle.terms.specs.Held.{Held, emptyHeld}
@@ -53,7 +53,7 @@ good-of b h e = go (good b) e
   where
     go : (t : Bool) → cond t (holds (readHeld b)) unreadable ≡ holds h → T t
     go true e = tt
-    go false e = let z : _≡_ {A = ℕ} 0 1 = cc in let w : ⊥ = omega arith in absurd w
+    go false e = differ (cc)
 
 -- the layout's laws, and that accepted records keep the limits
 pub laws : Laws

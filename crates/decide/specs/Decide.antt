@@ -12,7 +12,7 @@ use Rattle.terms.specs.declared.Atom.{Atom}
 use Rattle.terms.specs.declared.Atom.the-variants.{Has}
 use Rattle.terms.specs.declared.Question.{Question}
 use Rattle.terms.specs.declared.Question.the-variants as Question
-use Rattle.terms.specs.Tests.{and-both, both-and, true-of, of-true, false-of}
+use Rattle.terms.specs.Tests.{and-both, both-and, true-of, of-true, false-of, differ}
 use Rattle.terms.specs.Limits.{ITEMS, NEVER}
 use Rattle.terms.specs.Holes.{isInside, InHole}
 use Rattle.terms.specs.Held.{Held, holeIn, endsOf}
@@ -89,7 +89,7 @@ unfolding answer
 contradiction-item h q a = go (looked (clashes h q (model h)) ITEMS 0)
   where
     go : {l : Lookup} → Looked (clashes h q (model h)) ITEMS 0 l → clashOr l (verdict h (model h) q) ≡ Contradiction a → a < ITEMS
-    go (none-there k) e = let z : _≡_ {A = ℕ} 0 1 = cc in let w : ⊥ = omega arith in absurd w
+    go (none-there k) e = differ (cc)
     go (first-there b u l m k) e = let f : b ≡ a = cc in omega (arith, f)
 
 module _ (h : Held) (R : InRange h) where

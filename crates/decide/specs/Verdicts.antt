@@ -26,6 +26,7 @@ use Rattle.line.specs.Cuts.{upto}
 use Rattle.line.specs.CutLaws.{upto-length}
 use Rattle.rows.proofs.Laws.{true-false}
 use Rattle.terms.specs.Spans.{Run}
+use Rattle.terms.specs.Tests.{differ}
 use Rattle.line.specs.Intervals.{cutsOf, interval, count}
 use Rattle.steps.specs.Concluded.{label-names, link-names}
 use Rattle.tables.specs.Saturate.{fact, mem}
@@ -160,10 +161,10 @@ module _ (h : Held) (R : InRange h) (few : length (cutsOf h) ≤ CUTS) where
 -- what is read off the table says which reply
 pub clash-nowhere : (l : Lookup) (v : Verdict) → clashOf l ≡ Clash.Nowhere → clashOr l v ≡ Answered v
 clash-nowhere absent v e = refl
-clash-nowhere (first a) v e = let z : _≡_ {A = ℕ} 0 1 = cc in let w : ⊥ = omega arith in absurd w
+clash-nowhere (first a) v e = differ (cc)
 
 pub clash-item : (l : Lookup) (v : Verdict) (a : ℕ) → clashOf l ≡ Clash.Item a → clashOr l v ≡ Contradiction a
-clash-item absent v a e = let z : _≡_ {A = ℕ} 0 1 = cc in let w : ⊥ = omega arith in absurd w
+clash-item absent v a e = differ (cc)
 clash-item (first b) v a e = let f : b ≡ a = cc in ap Contradiction f
 
 -- 01, Records: a list of spans has at most 97 pairs

@@ -19,7 +19,7 @@ kindField s = little 2 s 2
 abbrev pub bodyOf : List ℕ → List ℕ
 bodyOf s = take (lengthField s + 2 - 4) (drop 4 s)
 
--- 01, Where a record is turned away: length not that of the kind; no kind that has landed allows several lengths
+-- 01, Where a record is turned away: a length is that of the kind; a kind that there is not has none; no kind that has landed has several
 abbrev pub allows : Lengths → ℕ → Bool
 allows (Lengths.Exactly n) k = eqb k n
 allows (Lengths.AtLeast n) k = leb n k

@@ -8,7 +8,7 @@ use native.Mathlib.Omega.{arith}
 use borrow.Author.Tests.{ltb-true, ltb-false}
 use lib.Dec.{T, eqb, ltb, eqb→eq}
 use lib.ListN.{length, drop, length-drop}
-use Rattle.terms.specs.Tests.{of-true}
+use Rattle.terms.specs.Tests.{of-true, differ}
 use Rattle.terms.specs.declared.Answer.{Answer}
 use Rattle.terms.specs.declared.Answer.the-variants as Answer
 use Rattle.commands.specs.Call.{call}
@@ -69,7 +69,7 @@ cut e t = subst (λ a. T (goesOn a)) e t
 
 -- the answers that stop it differ
 not-both : {A : Type 0} {a b : Answer} → a ≡ Answer.End → b ≡ Answer.Refused 3 → a ≡ b → A
-not-both e f g = let z : _≡_ {A = ℕ} 0 1 = cc in let w : ⊥ = omega arith in absurd w
+not-both e f g = differ (cc)
 
 -- a number has one line
 pub line-one : {input : List ℕ} {n : ℕ} {a b : List ℕ} → Prints input n a → Prints input n b → a ≡ b

@@ -20,6 +20,7 @@ use Rattle.refusals.specs.Refusals.{rank, Test, test}
 use Rattle.terms.specs.Held.{_∈_, Held, emptyHeld}
 use Rattle.terms.specs.Limited.{Limited, of-limited}
 use Rattle.places.specs.Layout.{zeros, SIZE, encode}
+use Rattle.places.specs.Sizes.{length-zeros}
 use Rattle.block.specs.Block.{readHeld, good}
 use Rattle.records.specs.Records.{parse}
 use Rattle.commands.specs.Call.{judged, effect, call}
@@ -45,18 +46,14 @@ pub record Fit (m : Buffers) : Type 0 where
   pub links : length (m .links) ≡ LINK-ENTRIES
   pub spans : length (m .spans) ≡ SPAN-NUMBERS
 
-zeros-long : (n : ℕ) → length (zeros n) ≡ n
-unfolding zeros
-zeros-long n = length-replicate n 0
-
 fresh-fit : Fit fresh
 unfolding fresh
 fresh-fit = record {
   held = emptyHeld;
   limited = empty-limited;
   block = sym (laws .encode-empty);
-  labels = zeros-long LABEL-ENTRIES;
-  links = zeros-long LINK-ENTRIES;
+  labels = length-zeros LABEL-ENTRIES;
+  links = length-zeros LINK-ENTRIES;
   spans = length-replicate SPAN-NUMBERS (pos 0);
 }
 

@@ -9,7 +9,7 @@ use borrow.Author.Tests.{lt-ltb, le-ltb, ne-eqb}
 use lib.Dec.{eqb, ltb, lt→ltb, ltb→lt, leb·suc-suc, eqb·suc-suc}
 use lib.ListN.{length, getD, take, drop, set, length-take, length-drop, length-map}
 use lib.Seq.{drop-cons, drop-length, take-suc, take-suc-set}
-use Rattle.terms.specs.Tests.{same-test}
+use Rattle.terms.specs.Tests.{and-true, and-assoc, same-test}
 use Rattle.terms.specs.Lists.{some, every, strike, once}
 use Rattle.keys.specs.Search.{indexOf, distinct}
 
@@ -136,14 +136,6 @@ distinct-once (k ∷ ks) = go (some (eqb k) ks) (distinct-few ks) (distinct-once
         eqb (cond t 0 1 + distinct ks) (suc (length ks)) ≡ not t && once eqb ks
     go true h e = ne-eqb (0 + distinct ks) (suc (length ks)) (λ q. omega arith)
     go false h e = let q : 1 + distinct ks ≡ suc (distinct ks) = omega arith in rw q (eqb·suc-suc (distinct ks) (length ks) ∙ e)
-
-and-true : (b : Bool) → b && true ≡ b
-and-true true = refl
-and-true false = refl
-
-and-assoc : (a b c : Bool) → a && (b && c) ≡ (a && b) && c
-and-assoc true b c = refl
-and-assoc false b c = refl
 
 every-append : {X : Type 0} (f : X → Bool) (xs : List X) (x : X) → every f (xs ++ (x ∷ [])) ≡ every f xs && f x
 unfolding every

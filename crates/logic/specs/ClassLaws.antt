@@ -17,7 +17,6 @@ use mathlib.Core.List.{
   Memᴰ·append-right,
 }
 use Prim.Native.Nat.{ℕ}
-use native.Mathlib.Omega.{arith}
 use lib.Dec.{T, eqb, eqb→eq, eqb-refl}
 use lib.IntN.{ℤ}
 use Rattle.terms.specs.declared.Rule.{Rule}
@@ -25,7 +24,7 @@ use Rattle.terms.specs.declared.Atom.{Atom}
 use Rattle.terms.specs.declared.Atom.the-variants.{Has, Linked}
 use Rattle.terms.specs.declared.Mark.{Mark}
 use Rattle.terms.specs.declared.Question.{Question}
-use Rattle.terms.specs.Tests.{and-both, or-one, or-left, or-right, same-test}
+use Rattle.terms.specs.Tests.{and-both, or-one, or-left, or-right, same-test, differ}
 use Rattle.terms.specs.Holes.{isInside}
 use Rattle.terms.specs.Held.{_∈_, Held, holeIn}
 use Rattle.terms.specs.Ends.{at-top}
@@ -91,7 +90,7 @@ module _ (m : Mark) (ms : List Mark) where
   -- a label mark joins nothing
   not-link : (c A : ℕ) → m .atom ≡ Has c A → (a b : ℕ) → LinkMark (m ∷ ms) a b → LinkMark ms a b
   not-link c A e a b l = ⊎-elim
-      (λ f. let d : Has c A ≡ Linked a (l .kind) b = sym e ∙ (sym (ap (λ n. n .atom) f) ∙ l .says) in let z : _≡_ {A = ℕ} 0 1 = cc in let w : ⊥ = omega arith in absurd w)
+      (λ f. let d : Has c A ≡ Linked a (l .kind) b = sym e ∙ (sym (ap (λ n. n .atom) f) ∙ l .says) in differ (cc))
       (λ n. record { mark = l .mark; kind = l .kind; held = n; says = l .says })
       (List·Memᴰ·cases-cons (l .held))
 
@@ -116,7 +115,8 @@ joined-exact [] a b = (λ t. subst (Chain (LinkMark []) a) (eqb→eq a b t) itse
     none (against p l) = absurd (List·Memᴰ·not-nil (l .held))
 joined-exact (m ∷ ms) a b = go (m .atom) refl (λ c d. joined-exact ms c d)
   where
-    go : (x : Atom) → m .atom ≡ x → ((c d : ℕ) → T (joinedB ms c d) ↔ Chain (LinkMark ms) c d) → T (joinedBy x (λ c d. joinedB ms c d) a b) ↔ Chain (LinkMark (m ∷ ms)) a b
+    go : (x : Atom) → m .atom ≡ x → ((c d : ℕ) → T (joinedB ms c d) ↔ Chain (LinkMark ms) c d) →
+        T (joinedBy x (λ c d. joinedB ms c d) a b) ↔ Chain (LinkMark (m ∷ ms)) a b
     go (Has c A) e f = (λ t. chain-map (longer m ms) (f a b .0 t), λ p. f a b .1 (chain-map (not-link m ms c A e) p))
     go (Linked c r d) e f = (
       λ t. chain-map (plus-is m ms c r d e) (through-plus (read (s c a || s d a) (one c d a) t)),
@@ -150,7 +150,8 @@ joined-exact (m ∷ ms) a b = go (m .atom) refl (λ c d. joined-exact ms c d)
         on w (there p q) = inr q
         on w (back p q) = inl q
 
-        write : (v : Bool) → (T v → Chain (LinkMark ms) c a ⊎ Chain (LinkMark ms) d a) → (Chain (LinkMark ms) c a ⊎ Chain (LinkMark ms) d a → T v) → Through (LinkMark ms) c d a b → T (cond v (s c b || s d b) (s a b))
+        write : (v : Bool) → (T v → Chain (LinkMark ms) c a ⊎ Chain (LinkMark ms) d a) → (Chain (LinkMark ms) c a ⊎ Chain (LinkMark ms) d a → T v) →
+            Through (LinkMark ms) c d a b → T (cond v (s c b || s d b) (s a b))
         write true g k t = two c d b (on (g tt) t)
         write false g k (without p) = f a b .1 p
         write false g k (there p q) = absurd (k (inl (chain-back p)))

@@ -1,9 +1,11 @@
 -- C gets the answer back: the halves of the number that a call returns are the answer's number and its value. Assumes nothing.
-use mathlib.Core.Path.{_≡_, sym, ap, _∙_}
+use mathlib.Core.Path.{_≡_, refl, sym, ap, _∙_}
+use mathlib.Core.Bool.{cond}
 use mathlib.Core.List.{List}
 use Prim.Native.Nat.{ℕ, _+_, _/_, _%_, _<_}
 use native.Mathlib.Nat.{add-zero, mul-add-div-right, div-eq-of-lt, mul-add-mod-self-right, mod-eq-of-lt}
 use native.Mathlib.Omega.{arith}
+use lib.Dec.{eqb}
 use Rattle.terms.specs.declared.Answer.{Answer}
 use Rattle.terms.specs.declared.Answer.the-variants.{Done, Yes, No, Contradiction, Spans, End, Refused}
 use Rattle.terms.specs.Answers.{numberOf, valueOf}
@@ -29,10 +31,26 @@ unpacked a h = record {
   fits = omega (arith, few a);
 }
 
--- so two answers that C gets as one number are one, by number and value
-pub packed-one : (a b : Answer) → Unpacked a → Unpacked b → packed a ≡ packed b → (numberOf a ≡ numberOf b) × (valueOf a ≡ valueOf b)
+-- the answer of a number and a value, and each answer is the one of its own
+abbrev made : ℕ → ℕ → Answer
+made n v =
+    cond (eqb n 0) Done (cond (eqb n 1) Yes (cond (eqb n 2) No (cond (eqb n 3) (Contradiction v) (cond (eqb n 4) (Spans v) (cond (eqb n 5) End (Refused v))))))
+
+made-one : (a : Answer) → made (numberOf a) (valueOf a) ≡ a
+made-one Done = refl
+made-one Yes = refl
+made-one No = refl
+made-one (Contradiction item) = refl
+made-one (Spans count) = refl
+made-one End = refl
+made-one (Refused number) = refl
+
+-- so two answers that C gets as one number are one
+pub packed-one : (a b : Answer) → Unpacked a → Unpacked b → packed a ≡ packed b → a ≡ b
 packed-one a b u v e =
-    (sym (u .number) ∙ (ap (λ n. n / 65536) e ∙ v .number), sym (u .value) ∙ (ap (λ n. n % 65536) e ∙ v .value))
+    let n : numberOf a ≡ numberOf b = sym (u .number) ∙ (ap (λ k. k / 65536) e ∙ v .number) in
+    let w : valueOf a ≡ valueOf b = sym (u .value) ∙ (ap (λ k. k % 65536) e ∙ v .value) in
+    sym (made-one a) ∙ ((λ i. made (n i) (w i)) ∙ made-one b)
 
 -- whatever is lent and whatever the input, C gets the call's answer back
 pub call-unpacked : (m : Buffers) (s : List ℕ) → Unpacked (call m s .answer)

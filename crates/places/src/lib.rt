@@ -16,7 +16,7 @@ use terms::Settings;
 
 const SETTINGS_AT: usize = 4;
 
-// What no operator is stored as is read as WITHIN 1; the comparison in `load` finds it.
+// What no operator is stored as is read as WITHIN 1; the comparison in `block::load` finds it.
 fn rule_of(kind: u8, a: u8, b: u8, c: u8, n: u32) -> Rule
     ensures { λ r. ⌜ r ≡ ruleOf kind a b c n ⌝ }
 {
@@ -133,7 +133,7 @@ fn counting_byte(counting: Counting) -> u8
     }
 }
 
-// What no counting is stored as is read as the new one; the comparison in `load` finds it.
+// What no counting is stored as is read as the new one; the comparison in `block::load` finds it.
 fn counting_from(byte: u8) -> Counting
     ensures { λ r. ⌜ r ≡ countingFrom byte ⌝ }
 {
@@ -143,7 +143,7 @@ fn counting_from(byte: u8) -> Counting
     Counting::New
 }
 
-// What no hole is stored as is read as one; the comparison in `load` finds it.
+// What no hole is stored as is read as one; the comparison in `block::load` finds it.
 fn hole_from(byte: u8, top: i32, bottom: i32) -> Hole
     ensures { λ r. ⌜ r ≡ holeFrom byte top bottom ⌝ }
 {

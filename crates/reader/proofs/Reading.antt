@@ -16,6 +16,7 @@ use Rattle.frames.specs.Frames.{lengthField, bodyOf, lengthsOf, allows}
 use Rattle.reader.specs.declared.Input.{Input}
 use Rattle.reader.specs.declared.Input.the-variants as Input
 use Rattle.terms.specs.declared.Settings.{Settings}
+use Rattle.terms.specs.Tests.{differ}
 use Rattle.reader.specs.Code.{inputOf, parsedOf, Parsed-as}
 
 -- ---- the body of a record
@@ -36,9 +37,6 @@ pub body-room : (at k u : ℕ) (x : List ℕ) → Framed-in (drop at x) k u → 
 body-room at k u x F = (omega (arith, F .least), omega (arith, length-drop at x, F .room, F .least))
 
 -- ---- the reading
-
-differ : {A : Type 0} → _≡_ {A = ℕ} 0 1 → A
-differ e = let z : ⊥ = omega arith in absurd z
 
 pub read-nothing : (σ : Settings) (x : List ℕ) → framed x ≡ Framed.Nothing → Parsed-as σ x Input.Nothing
 unfolding parse

@@ -54,10 +54,11 @@ labelStretch b = record { atom = Has (getD b 0 0) (getD b 1 0); top = signed32At
 abbrev pub linkStretch : List ℕ → Mark
 linkStretch b = record { atom = Linked (getD b 0 0) (getD b 1 0) (getD b 2 0); top = signed32At b 3; bottom = signed32At b 7 }
 
--- 02, Slip 4: the counting's number
+-- 02, Slip 4: the counting that the byte names
 abbrev pub countingAt : List ℕ → Counting
 countingAt b = countingOf (getD b 0 0)
 
+-- and that it names none
 abbrev pub isNoCounting : List ℕ → Bool
 isNoCounting b = not (isCounting (getD b 0 0))
 

@@ -45,9 +45,41 @@ use Rattle.frames.specs.declared.Framed.{Framed}
 use Rattle.frames.specs.declared.Framed.the-variants as Framed
 use Rattle.records.specs.Parsed.{Parsed}
 use Rattle.records.specs.Parsed as Parsed
-use Rattle.records.specs.Records.{operatorTests, markTests, holeTests, questionTests, Kind, kinds, atKind, bodyTests, commandIn, decodedAs, decodeBody, parsedBody, parsedFrame, parse}
+use Rattle.records.specs.Records.{
+  operatorTests,
+  markTests,
+  holeTests,
+  questionTests,
+  Kind,
+  kinds,
+  atKind,
+  bodyTests,
+  commandIn,
+  decodedAs,
+  decodeBody,
+  parsedBody,
+  parsedFrame,
+  parse,
+}
 use Rattle.frames.specs.Framing.{framed}
-use Rattle.records.specs.Formats.{operatorAt, isInvalid, labelRule, bothRule, linkRule, viaRule, labelMark, linkMark, labelStretch, linkStretch, countingAt, holeTop, holeBottom, labelQuestion, linkQuestion, spansQuestion}
+use Rattle.records.specs.Formats.{
+  operatorAt,
+  isInvalid,
+  labelRule,
+  bothRule,
+  linkRule,
+  viaRule,
+  labelMark,
+  linkMark,
+  labelStretch,
+  linkStretch,
+  countingAt,
+  holeTop,
+  holeBottom,
+  labelQuestion,
+  linkQuestion,
+  spansQuestion,
+}
 use Rattle.frames.specs.Frames.{allows, lengthsOf, bodyOf}
 use Rattle.records.specs.Frame.{recordBytes, parse-record}
 

@@ -1,4 +1,4 @@
--- How a record is read, by its kind: the tests of the frame and of each body, and the command that it says.
+-- How a record is read, by its kind: the tests of each body, and the command that it says.
 use mathlib.Core.Bool.{not, cond, _&&_}
 use mathlib.Core.List.{List, [], _∷_}
 use Prim.Native.Nat.{ℕ}
@@ -23,7 +23,25 @@ use Rattle.frames.specs.declared.Framed.{Framed}
 use Rattle.frames.specs.declared.Framed.the-variants as Framed
 use Rattle.frames.specs.Framing.{framed}
 use Rattle.frames.specs.Frames.{bodyOf}
-use Rattle.records.specs.Formats.{operatorAt, isInvalid, labelRule, bothRule, linkRule, viaRule, labelMark, linkMark, labelStretch, linkStretch, countingAt, isNoCounting, holeTop, holeBottom, labelQuestion, linkQuestion, spansQuestion}
+use Rattle.records.specs.Formats.{
+  operatorAt,
+  isInvalid,
+  labelRule,
+  bothRule,
+  linkRule,
+  viaRule,
+  labelMark,
+  linkMark,
+  labelStretch,
+  linkStretch,
+  countingAt,
+  isNoCounting,
+  holeTop,
+  holeBottom,
+  labelQuestion,
+  linkQuestion,
+  spansQuestion,
+}
 use Rattle.records.specs.Parsed.{Parsed}
 use Rattle.records.specs.Parsed as Parsed
 

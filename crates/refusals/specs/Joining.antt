@@ -4,8 +4,13 @@ use mathlib.Core.Bool.{Bool, true, false, not, cond}
 use mathlib.Core.List.{[], _∷_}
 use Prim.Native.Nat.{ℕ}
 use Rattle.terms.specs.declared.Tested.the-variants as Tested
+use Rattle.terms.specs.Tests.{differ}
 use Rattle.terms.specs.Otherwise.{orElse}
 use Rattle.refusals.specs.Refusals.{test, tested}
+
+-- what passes is not refused
+pub clash : {A : Type 0} {n : ℕ} → Tested.Passed ≡ Tested.Refused n → A
+clash e = differ (cc)
 
 -- one test
 pub one-test : (p : Bool) (n : ℕ) → cond p Tested.Passed (Tested.Refused n) ≡ tested (test (not p) n ∷ [])

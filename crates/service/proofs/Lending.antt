@@ -3,7 +3,6 @@ use mathlib.Core.Path.{_≡_, refl, sym, ap, _∙_, subst}
 use mathlib.Core.Bool.{Bool, true, false, not, cond}
 use mathlib.Core.List.{List, [], _∷_}
 use Prim.Native.Nat.{ℕ, _-_}
-use native.Mathlib.Omega.{arith}
 use lib.Dec.{T}
 use lib.IntN.{ℤ}
 use lib.ListN.{length, take}
@@ -12,8 +11,9 @@ use Rattle.terms.specs.declared.Answer.the-variants as Answer
 use Rattle.terms.specs.declared.Question.{Question}
 use Rattle.terms.specs.declared.Tested.{Tested}
 use Rattle.terms.specs.declared.Tested.the-variants as Tested
-use Rattle.terms.specs.Tests.{and-both, of-true}
+use Rattle.terms.specs.Tests.{and-both, of-true, differ}
 use Rattle.refusals.specs.Refusals.{test, tested}
+use Rattle.refusals.specs.Joining.{clash}
 use Rattle.terms.specs.Otherwise.{onTested}
 use Rattle.terms.specs.Held.{Held, isQuestion}
 use Rattle.terms.specs.Lists.{limits}
@@ -61,14 +61,11 @@ held-state b r L e = record {
       (and-both (limits (readHeld b)) (sameBytes (encode (readHeld b)) (take SIZE b)) (of-true (sym (L .verdict) ∙ e)) .0);
 }
 
-clash : {A : Type 0} (n : ℕ) → Tested.Refused n ≡ Tested.Passed → A
-clash n e = let z : _≡_ {A = ℕ} 0 1 = cc in let w : ⊥ = omega arith in absurd w
-
 pub short-as : (b : List ℕ) (t k s : ℕ) (state : State) → isShort (length b) t k s ≡ true →
     Lent-as b t k s (record { tested = Tested.Refused 1; state = state })
 short-as b t k s state e = record {
   said = sym (ap (λ (v : Bool). tested (test v 1 ∷ test (not (good b)) 2 ∷ [])) e);
-  found = λ f. clash 1 f;
+  found = λ f. clash (sym f);
 }
 
 pub loaded-as :
@@ -93,7 +90,7 @@ loaded-as b t k s r e L v f = go (r .good) (L .verdict) f (λ g. held-state b r 
           f
           ∙ sym (ap (λ (x : Bool). tested (test x 1 ∷ test (not (good b)) 2 ∷ [])) e
           ∙ ap (λ (x : Bool). tested (test false 1 ∷ test (not x) 2 ∷ [])) (sym g));
-      found = λ p. clash 2 (sym f ∙ p);
+      found = λ p. clash (sym p ∙ f);
     }
 
 -- the record call, by what was read
@@ -123,4 +120,4 @@ asked-for h q c = go (isQuestion q)
 
     go : (v : Bool) → given v ≡ Decoded.Command c → T v × (given v ≡ Decoded.Command (Command.Ask q))
     go true e = (tt, refl)
-    go false e = let z : _≡_ {A = ℕ} 0 1 = cc in let w : ⊥ = omega arith in absurd w
+    go false e = differ (cc)

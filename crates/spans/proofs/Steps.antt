@@ -74,7 +74,8 @@ module _ (line : Run) (cs : List ℤ) (p : ℕ) (buffer : List ℤ) where
   goes-on false h s k e f = absurd (true≢false (sym e))
 
   pub ends : (b h : Bool) (s k : ℕ) (t u : ℤ) (after : List ℤ) → b ≡ true → h ≡ false → t ≡ top-from (line .top) cs s →
-      u ≡ bottom-to (line .bottom) cs (p - 1) → after ≡ laid buffer (2 * k) (t ∷ u ∷ []) → Stepped line cs p h (progress b s k) buffer after (progress h p (k + 1))
+      u ≡ bottom-to (line .bottom) cs (p - 1) → after ≡ laid buffer (2 * k) (t ∷ u ∷ []) →
+      Stepped line cs p h (progress b s k) buffer after (progress h p (k + 1))
   unfolding flat
   ends true false s k t u after e f x y q =
       let d : p - 1 ≡ pred p = omega arith in

@@ -15,6 +15,7 @@ use Rattle.terms.specs.Limits.{RULES, MARKS, DEPTHS}
 use Rattle.terms.specs.Holes.{liesIn}
 use Rattle.terms.specs.Held.{Held, holeIn, endsOf}
 use Rattle.refusals.specs.Refusals.{Test, test, tested}
+use Rattle.refusals.specs.Joining.{clash}
 use Rattle.terms.specs.Otherwise.{onTested}
 use Rattle.terms.specs.Same.{sameRule, sameMark}
 use Rattle.terms.specs.Lists.{some, depthCount}
@@ -30,13 +31,10 @@ module _ (tests : List Test) (h then : Held) (t : Tested) (s : State) (e : t ≡
   pub refused-as : (n : ℕ) → t ≡ Tested.Refused n → Holds h s → Change-as tests h then record { tested = t; state = s }
   refused-as n z w = record { said = e; held = w .held ∙ ap (onTested then (λ n. h)) (sym z ∙ e); counts = w .counts }
 
-clash : (n : ℕ) → Tested.Refused n ≡ Tested.Passed → ⊥
-clash n e = let z : _≡_ {A = ℕ} 0 1 = cc in omega arith
-
 -- where neither 9 nor 11 applies there is room
 room : (same full : Bool) (n most : ℕ) (ts : List Test) → leb most n ≡ full → tested (test same 9 ∷ test full 11 ∷ ts) ≡ Tested.Passed → n < most
-room true full n most ts e z = absurd (clash 9 z)
-room false true n most ts e z = absurd (clash 11 z)
+room true full n most ts e z = clash (sym z)
+room false true n most ts e z = clash (sym z)
 room false false n most ts e z = leb-false most n e
 
 pub rule-room : (h : Held) (ρ : Rule) → tested (ruleTests h ρ) ≡ Tested.Passed → length (h .rules) < RULES
@@ -44,7 +42,7 @@ rule-room h ρ z = room (some (sameRule ρ) (h .rules)) (leb RULES (length (h .r
 
 -- nor does what stands before them
 behind : (outside : Bool) (n : ℕ) (ts : List Test) → tested (test outside n ∷ ts) ≡ Tested.Passed → tested ts ≡ Tested.Passed
-behind true n ts z = absurd (clash n z)
+behind true n ts z = clash (sym z)
 behind false n ts z = z
 
 pub put-room : (h : Held) (m : Mark) → tested (putTests h m) ≡ Tested.Passed → length (h .marks) < MARKS

@@ -8,8 +8,8 @@ use lib.ListN.{length, take, getD}
 use Rattle.codec.specs.Bytes.{put}
 use Rattle.codec.proofs.Laws.{put-nil}
 use Rattle.places.specs.Layout.{markBytes, cat, MARK-BYTES, MARKS-AT}
+use Rattle.places.specs.Sizes.{mark-size}
 use Rattle.block.proofs.Tab.{lay-more}
-use Rattle.block.proofs.Sizes.{mark-size}
 use Rattle.block.proofs.store_marks.Statement.{statement}
 use Rattle.block.proofs.store_marks.Tie as tie
 

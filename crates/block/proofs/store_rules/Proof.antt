@@ -8,9 +8,9 @@ use lib.ListN.{length, take, getD}
 use Rattle.codec.specs.Bytes.{put}
 use Rattle.codec.proofs.Laws.{put-nil}
 use Rattle.places.specs.Layout.{cat, HEADER, RULE-BYTES}
+use Rattle.places.specs.Sizes.{rule-size}
 use Rattle.block.specs.Places.{placeBytesOf}
 use Rattle.block.proofs.Tab.{lay-more}
-use Rattle.block.proofs.Sizes.{place-size}
 use Rattle.block.proofs.store_rules.Statement.{statement}
 use Rattle.block.proofs.store_rules.Tie as tie
 
@@ -56,7 +56,7 @@ loop-again c =
       p .kept .0 ∙ l .inv .1,
       p .ensures
           ∙ ap (λ (x : List ℕ). put x (HEADER + RULE-BYTES * l .i) (placeBytesOf (getD (a .t2) (l .i) _))) (l .inv .2)
-          ∙ lay-more placeBytesOf RULE-BYTES place-size (a .b .now) HEADER (a .t2) (omega arith) (l .i) _ (omega arith),
+          ∙ lay-more placeBytesOf RULE-BYTES (λ p. rule-size (p .rule)) (a .b .now) HEADER (a .t2) (omega arith) (l .i) _ (omega arith),
     )
 
 same-length : tie.Need-same-length Inv-loop μ-loop

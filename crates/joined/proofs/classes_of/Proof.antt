@@ -31,7 +31,8 @@ join-requires c κs =
     let round = c .before .before in
     let start = round .before .before in (
       round .before .loop .inv .1 .size,
-      mark-markable (getD (start .args .t1) (round .before .loop .i) emptyMark) (mark-named _ _ (round .before .loop .i) _ (start .pre) (round .loop-test .taken)),
+      mark-markable (getD (start .args .t1) (round .before .loop .i) emptyMark)
+          (mark-named _ _ (round .before .loop .i) _ (start .pre) (round .loop-test .taken)),
     )
 
 add-i : tie.Need-add-i Inv-loop μ-loop

@@ -11,7 +11,8 @@ use Rattle.joined.proofs.either.Statement.{statement}
 use Rattle.joined.proofs.either.Tie as tie
 
 abbrev Inv-loop : tie.InvT-loop
-Inv-loop one other classes first second items₀ item₀ items item = (item ≤ ITEMS) × Filled false (λ a. sameClass classes one a || sameClass classes other a) item items
+Inv-loop one other classes first second items₀ item₀ items item =
+    (item ≤ ITEMS) × Filled false (λ a. sameClass classes one a || sameClass classes other a) item items
 
 abbrev μ-loop : tie.MeasureT-loop
 μ-loop one other classes first second items₀ item₀ items item = ITEMS - item

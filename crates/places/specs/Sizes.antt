@@ -1,4 +1,4 @@
--- The settings fit the header; each place has the bytes of its list, by its cases; and zeros are as many as they say. Assumes nothing.
+-- How long the parts of the block are: the settings fit the header, each place has the bytes of its list, zeros are as many as they say. Assumes nothing.
 use mathlib.Core.Path.{_≡_, refl}
 use mathlib.Core.List.{List}
 use Prim.Native.Nat.{ℕ, _-_, _≤_}
@@ -10,12 +10,11 @@ use Rattle.terms.specs.declared.Hole.{Hole}
 use Rattle.terms.specs.declared.Hole.the-variants.{Whole, Part}
 use Rattle.terms.specs.declared.Rule.{Rule}
 use Rattle.terms.specs.declared.Rule.the-variants.{Label, Both, Link, Via}
-use Rattle.terms.specs.declared.RulePlace.{RulePlace}
 use Rattle.terms.specs.declared.Atom.{Atom}
 use Rattle.terms.specs.declared.Atom.the-variants.{Has, Linked}
 use Rattle.terms.specs.declared.Mark.{Mark}
 use Rattle.terms.specs.declared.Settings.{Settings}
 use Rattle.places.specs.Layout.{
   countingByte,
   holeBytes,
   settingsBytes,
@@ -31,7 +30,6 @@ use Rattle.places.specs.Layout.{
   MARK-BYTES,
   padded,
 }
-use Rattle.block.specs.Places.{placeBytesOf}
 
 ends-size : (k a b c : ℕ) (t d : ℤ) → length (endsBytes k a b c t d) ≡ MARK-BYTES
 unfolding endsBytes bytes
@@ -54,9 +52,6 @@ rule-size (Label o A B) = refl
 rule-size (Both A B C) = refl
 rule-size (Link o r s) = refl
 rule-size (Via r A B) = refl
-
-pub place-size : (p : RulePlace) → length (placeBytesOf p) ≡ RULE-BYTES
-place-size p = rule-size (p .rule)
 
 atom-size : (x : Atom) (t d : ℤ) → length (atomBytes x t d) ≡ MARK-BYTES
 atom-size (Has a A) t d = ends-size _ _ _ _ _ _
