@@ -32,13 +32,13 @@ runs-one : (S : ℤ → Type 0) (n k : ℕ) (s t : List ℤ) (w : Runs-written S
 runs-one S n k s t w v = longest-one S (w .runs) (v .runs) (w .longest) (v .longest)
 
 -- the numbers of the answers that no statement gets, and that no question for spans gets
-abbrev untold : ℕ → Bool
+abbrev pub untold : ℕ → Bool
 untold n = not (eqb n 1 || (eqb n 2 || eqb n 3))
 
-abbrev unspanned : ℕ → Bool
+abbrev pub unspanned : ℕ → Bool
 unspanned n = not (eqb n 3 || eqb n 4)
 
-module _ (h : Held) (r k : After) where
+module _ (h : Held) (r : After) where
   -- not contradiction, so no item concerned has NEVER
   clear : (q : Question) → Exact h q r → (Contradicts r → ⊥) → Never h q → ⊥
   clear q R f v = f (R .some-never .1 v)
@@ -48,26 +48,27 @@ module _ (h : Held) (r k : After) where
   carried f a b e t c = subst (λ (y : Answer). T (f (numberOf y))) (sym e ∙ c) t
 
   -- a statement is answered yes, no or contradiction
-  not-told : (x : Atom) (i : ℤ) → Exact h (Question.Holds x i) r → (a : Answer) → T (untold (numberOf a)) → r .answer ≡ a → ⊥
+  pub not-told : (x : Atom) (i : ℤ) → Exact h (Question.Holds x i) r → (a : Answer) → T (untold (numberOf a)) → r .answer ≡ a → ⊥
   not-told x i R a t e =
       let c = clear (Question.Holds x i) R (λ v. carried untold a (Answer.Contradiction (v .0)) e t (v .1)) in
       carried untold a Answer.No e t (R .by-model .1 .1 (c, λ d. carried untold a Answer.Yes e t (R .by-model .0 .1 (c, d))))
 
-  holds-one : (x : Atom) (i : ℤ) → Exact h (Question.Holds x i) r → Exact h (Question.Holds x i) k → (a : Answer) → r .answer ≡ a → k .answer ≡ a
-  holds-one x i R K Answer.Yes e = K .by-model .0 .1 (R .by-model .0 .0 e)
-  holds-one x i R K Answer.No e = K .by-model .1 .1 (R .by-model .1 .0 e)
-  holds-one x i R K (Answer.Contradiction a) e = K .lowest a .1 (R .lowest a .0 e)
-  holds-one x i R K Answer.Done e = absurd (not-told x i R Answer.Done tt e)
-  holds-one x i R K (Answer.Spans n) e = absurd (not-told x i R (Answer.Spans n) tt e)
-  holds-one x i R K Answer.End e = absurd (not-told x i R Answer.End tt e)
-  holds-one x i R K (Answer.Refused n) e = absurd (not-told x i R (Answer.Refused n) tt e)
-
   -- spans are asked for and given, or contradiction
-  not-spanned : (a A : ℕ) → Exact h (Question.Spans a A) r → (b : Answer) → T (unspanned (numberOf b)) → r .answer ≡ b → ⊥
+  pub not-spanned : (a A : ℕ) → Exact h (Question.Spans a A) r → (b : Answer) → T (unspanned (numberOf b)) → r .answer ≡ b → ⊥
   not-spanned a A R b t e =
       let c = clear (Question.Spans a A) R (λ v. carried unspanned b (Answer.Contradiction (v .0)) e t (v .1)) in
       let w = R .by-model .0 .1 c in
       carried unspanned b (Answer.Spans (w .0)) e t (w .1)
+
+module _ (h : Held) (r k : After) where
+  holds-one : (x : Atom) (i : ℤ) → Exact h (Question.Holds x i) r → Exact h (Question.Holds x i) k → (a : Answer) → r .answer ≡ a → k .answer ≡ a
+  holds-one x i R K Answer.Yes e = K .by-model .0 .1 (R .by-model .0 .0 e)
+  holds-one x i R K Answer.No e = K .by-model .1 .1 (R .by-model .1 .0 e)
+  holds-one x i R K (Answer.Contradiction a) e = K .lowest a .1 (R .lowest a .0 e)
+  holds-one x i R K Answer.Done e = absurd (not-told h r x i R Answer.Done tt e)
+  holds-one x i R K (Answer.Spans n) e = absurd (not-told h r x i R (Answer.Spans n) tt e)
+  holds-one x i R K Answer.End e = absurd (not-told h r x i R Answer.End tt e)
+  holds-one x i R K (Answer.Refused n) e = absurd (not-told h r x i R (Answer.Refused n) tt e)
 
   spans-one : (a A : ℕ) → Exact h (Question.Spans a A) r → Exact h (Question.Spans a A) k → (x : Answer) → r .answer ≡ x → k .answer ≡ x
   spans-one a A R K (Answer.Contradiction c) e = K .lowest c .1 (R .lowest c .0 e)
@@ -76,11 +77,11 @@ module _ (h : Held) (r k : After) where
       let w = R .by-model .1 n e in
       let v = K .by-model .1 l f in
       f ∙ ap Answer.Spans (sym (v .number) ∙ (sym (ap length (runs-one (Derived h (Has a A)) n l (r .buffers .spans) (k .buffers .spans) w v)) ∙ w .number))
-  spans-one a A R K Answer.Done e = absurd (not-spanned a A R Answer.Done tt e)
-  spans-one a A R K Answer.Yes e = absurd (not-spanned a A R Answer.Yes tt e)
-  spans-one a A R K Answer.No e = absurd (not-spanned a A R Answer.No tt e)
-  spans-one a A R K Answer.End e = absurd (not-spanned a A R Answer.End tt e)
-  spans-one a A R K (Answer.Refused n) e = absurd (not-spanned a A R (Answer.Refused n) tt e)
+  spans-one a A R K Answer.Done e = absurd (not-spanned h r a A R Answer.Done tt e)
+  spans-one a A R K Answer.Yes e = absurd (not-spanned h r a A R Answer.Yes tt e)
+  spans-one a A R K Answer.No e = absurd (not-spanned h r a A R Answer.No tt e)
+  spans-one a A R K Answer.End e = absurd (not-spanned h r a A R Answer.End tt e)
+  spans-one a A R K (Answer.Refused n) e = absurd (not-spanned h r a A R (Answer.Refused n) tt e)
 
   answer-one : (q : Question) → Exact h q r → Exact h q k → r .answer ≡ k .answer
   answer-one (Question.Holds x i) R K = sym (holds-one x i R K (r .answer) refl)
@@ -90,7 +91,7 @@ module _ (h : Held) (r k : After) where
   pairs-one :
       (q : Question) → Exact h q r → Exact h q k → (n : ℕ) → r .answer ≡ Answer.Spans n →
       take (2 * n) (r .buffers .spans) ≡ take (2 * n) (k .buffers .spans)
-  pairs-one (Question.Holds x i) R K n e = absurd (not-told x i R (Answer.Spans n) tt e)
+  pairs-one (Question.Holds x i) R K n e = absurd (not-told h r x i R (Answer.Spans n) tt e)
   pairs-one (Question.Spans a A) R K n e =
       let w = R .by-model .1 n e in
       let v = K .by-model .1 n (spans-one a A R K (Answer.Spans n) e) in

@@ -26,3 +26,4 @@ pub mod Values
 pub mod OneCall
 pub mod Claimed
 pub mod OneReply
+pub mod ByKind

@@ -81,16 +81,16 @@ table-one n m x y X Y entries = ext-getD 0 x y (X .same-length ∙ sym (Y .same-
         (sym (getD-drop n x (e - n) 0) ∙ (ap (λ l. getD l (e - n) 0) (X .same-tail ∙ sym (Y .same-tail)) ∙ getD-drop n y (e - n) 0))
 
 -- the answers after which the tables are as lent
-abbrev Quiet : Answer → Type 0
+abbrev pub Quiet : Answer → Type 0
 Quiet a = (a ≡ Answer.Done) ⊎ ((a ≡ Answer.End) ⊎ ((n : ℕ) × (a ≡ Answer.Refused n)))
 
-quiet-tables : (a : Answer) (m x : Buffers) → Keeps a m x → Quiet a → (x .labels ≡ m .labels) × (x .links ≡ m .links)
+pub quiet-tables : (a : Answer) (m x : Buffers) → Keeps a m x → Quiet a → (x .labels ≡ m .labels) × (x .links ≡ m .links)
 quiet-tables a m x K (inl e) = K .tables e
 quiet-tables a m x K (inr (inl e)) = let f = K .ended e in (ap (λ (b : Buffers). b .labels) f, ap (λ (b : Buffers). b .links) f)
 quiet-tables a m x K (inr (inr w)) = let f = K .refused (w .0) (w .1) in (ap (λ (b : Buffers). b .labels) f, ap (λ (b : Buffers). b .links) f)
 
 -- a step of the book is one of those, or a question
-by-step : {h k : Held} {f : Fed} {r : Result} → Book h f r k → Quiet (r .answer) ⊎ ((q : Question) × Accepted h f (Asks q))
+pub by-step : {h k : Held} {f : Fed} {r : Result} → Book h f r k → Quiet (r .answer) ⊎ ((q : Question) × Accepted h f (Asks q))
 by-step (refused {n = n} e) = inl (inr (inr (n, refl)))
 by-step (ended e l) = inl (inr (inl refl))
 by-step (emptied a) = inl (inl refl)
@@ -100,6 +100,14 @@ by-step (struck a) = inl (inl refl)
 by-step (counted a) = inl (inl refl)
 by-step (confined a) = inl (inl refl)
 by-step (answered {q = q} r a d) = inr (q, a)
+
+-- where no row applies the block holds what is read off it
+pub passed-holds : (m : Buffers) (s : List ℕ) → tested (rows m s) ≡ Tested.Passed → Holding (m .block) (readHeld (m .block))
+passed-holds m s e =
+    let b = not (good (m .block)) in
+    let w = passed (short m) 1 (test b 2 ∷ inputRows (readHeld (m .block)) s) e in
+    let v = passed b 2 (inputRows (readHeld (m .block)) s) (w .1) in
+    good-holding (m .block) (twice (good (m .block)) (v .0))
 
 module _ (m : Buffers) (s : List ℕ) (r k : After) (R : Claimed m s r) (K : Claimed m s k) where
   refused-one : (n : ℕ) → tested (rows m s) ≡ Tested.Refused n → r ≡ k
@@ -170,10 +178,7 @@ module _ (m : Buffers) (s : List ℕ) (r k : After) (R : Claimed m s r) (K : Cla
       go : (t : Tested) → tested (rows m s) ≡ t → r ≡ k
       go (Tested.Refused n) e = refused-one n e
       go Tested.Passed e =
-          let b = not (good (m .block)) in
-          let w = passed (short m) 1 (test b 2 ∷ inputRows (readHeld (m .block)) s) e in
-          let v = passed b 2 (inputRows (readHeld (m .block)) s) (w .1) in
-          accepted-one (readHeld (m .block)) (good-holding (m .block) (twice (good (m .block)) (v .0)))
+          accepted-one (readHeld (m .block)) (passed-holds m s e)
 
 -- whatever meets all that is claimed is what the call gives: answer, bytes used and every lent number
 pub determined : (m : Buffers) (s : List ℕ) (r : After) → Claimed m s r → r ≡ call m s

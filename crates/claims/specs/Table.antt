@@ -96,7 +96,7 @@ onSaid d r p t s q (Takes m) = t m
 onSaid d r p t s q (Sets x) = s x
 onSaid d r p t s q (Asks x) = q x
 
--- ---- 01, Where a record is turned away, and 02's numbers: each row's case
+-- ---- 01, Where a record is turned away, and 02's numbers: each row's case, as it is where no row before it applies
 
 -- 3: 1 to 3 bytes left, or length under 2 or more than the bytes after the length field
 abbrev pub brokenFrame : List ℕ → Bool
