@@ -38,8 +38,8 @@ use Rattle.claims.specs.Reference.{
   answered,
 }
 use Rattle.claims.specs.Lives.{resultOf}
-use Rattle.claims.specs.Memory.{Keeps, Written-in, Lent-kept}
-use Rattle.claims.specs.Exact.{feeding, Holding, Asking, Exact}
+use Rattle.claims.specs.Memory.{Keeps, Written-in}
+use Rattle.claims.specs.Exact.{feeding, Holding, Asking}
 use Rattle.claims.specs.Claimed.{Claimed}
 use Rattle.claims.specs.Kept.{passed, twice}
 use Rattle.claims.specs.Refused.{refused-exactly, call-used}

@@ -15,7 +15,6 @@ use Rattle.commands.specs.Call.{call}
 use Rattle.commands.specs.Buffers.{Buffers}
 use Rattle.lines.specs.Lines.{lineText}
 use Rattle.harmikse.specs.Program.{LIMIT, tooLong, goesOn, Reaches, begun, handled, Prints, too-long, line-of, Whole, only-too-long, at-end, at-refusal-3}
-use Rattle.harmikse.specs.Uses.{Within}
 use Rattle.harmikse.specs.Reached.{reached-uses}
 
 -- which of two numbers is less

@@ -19,7 +19,7 @@ use Rattle.terms.specs.Limits.{LABEL-ENTRIES, LINK-ENTRIES, SPAN-NUMBERS}
 use Rattle.refusals.specs.Refusals.{rank, Test, test}
 use Rattle.terms.specs.Held.{_∈_, Held, emptyHeld}
 use Rattle.terms.specs.Limited.{Limited, of-limited}
-use Rattle.places.specs.Layout.{zeros, SIZE, encode}
+use Rattle.places.specs.Layout.{SIZE, encode}
 use Rattle.places.specs.Sizes.{length-zeros}
 use Rattle.block.specs.Block.{readHeld, good}
 use Rattle.records.specs.Records.{parse}

@@ -2,7 +2,7 @@
 -- statement that `omega` reads. The set `ints` turns each order and each equation of ℤ, in the hypotheses and in the goal,
 -- into that; of a sum or a difference that occurs, `omega (ints, sub-is a b)` says what it is. Assumes nothing.
 use mathlib.Core.Path.{_≡_, refl, ap}
-use mathlib.Core.Logic.{_⊎_, inl, inr, _≢_}
+use mathlib.Core.Logic.{_⊎_, inl, inr}
 use mathlib.Core.Bool.{Bool, true, false, not, cond}
 use Prim.Native.Nat.{ℕ, zero, suc, _+_, _-_, _≤_, _<_}
 use native.Mathlib.Omega.{arith}

@@ -1,7 +1,6 @@
 -- A depth by its bits: the lower half is its own number, the upper half has a sign.
 use mir.ValLaws.{toZ-ofZ}
 use mathlib.Core.Path.{_≡_, sym, ap, _∙_}
-use Prim.Native.Nat.{_-_}
 use mir.Syntax.{w32}
 use mir.Val.{ofZ}
 use Rattle.lines.specs.Lines.{decimal}
