@@ -7,3 +7,4 @@ pub mod Decide
 pub mod Sentences
 pub mod Verdicts
 pub mod Local
+pub mod SpanBuffer

@@ -2,14 +2,15 @@
 use mathlib.Core.Path.{_≡_}
 use mathlib.Core.Bool.{Bool, true, false}
 use mathlib.Core.List.{List, [], _∷_, _++_}
-use Prim.Native.Nat.{ℕ, suc, pred, _+_, _-_, _*_, _≤_, _<_}
+use Prim.Native.Nat.{ℕ, zero, suc, pred, _+_, _*_, _≤_, _<_}
 use lib.IntN.{ℤ}
 use lib.ListN.{length, take, drop}
 use Rattle.terms.specs.Limits.{ITEMS, LABELS, LABEL-ENTRIES, SPAN-NUMBERS}
 use Rattle.terms.specs.Spans.{Run, flat}
 use Rattle.line.specs.Code.{Cuts-in, Low-cuts}
 use Rattle.spans.specs.declared.Progress.{Progress}
-use Rattle.spans.specs.Runs.{Begun, outside, since, stretchOf, runsFrom, runs}
+pub use Rattle.spans.specs.Ended.{Spans-written}
+use Rattle.spans.specs.Runs.{Begun, outside, since, stretchOf}
 
 -- what a call for a label's spans may be given
 pub record To-write (buffer : List ℤ) (table : List ℕ) (a A : ℕ) (line : List ℤ) (n : ℕ) : Type 0 where
@@ -19,11 +20,6 @@ pub record To-write (buffer : List ℤ) (table : List ℕ) (a A : ℕ) (line : L
   pub label : A < LABELS
   pub labels : LABEL-ENTRIES ≤ length table
   pub spans : SPAN-NUMBERS ≤ length buffer
-
--- 01, Records: the pairs stand first in the buffer, and behind them it is as lent
-pub record Spans-written (rs : List Run) (before after : List ℤ) (r : ℕ) : Type 0 where
-  pub count : r ≡ length rs
-  pub buffer : after ≡ flat rs ++ drop (length (flat rs)) before
 
 -- these values from this place on, and the others as they were
 unfoldable pub laid : List ℤ → ℕ → List ℤ → List ℤ
@@ -55,13 +51,6 @@ begunAfter p false g = outside
 begunAfter p true outside = since p
 begunAfter p true (since s) = since s
 
--- before interval p the buffer holds exactly the spans that ended before it, and is as lent behind them
-pub record Written-so-far (e : Run) (cs : List ℤ) (has : ℕ → Bool) (p : ℕ) (g : Progress) (before after : List ℤ) : Type 0 where
-  pub done : List Run
-  pub left : runs e cs has ≡ done ++ runsFrom e cs has (suc (length cs) - p) p (begunIn g)
-  pub begins : Earlier (begunIn g) p
-  pub written : Spans-written done before after (g .count)
-
 -- what a step at interval p may be given; behind the last interval one more, without the label, ends the open span
 pub record To-step (e : Run) (buffer line : List ℤ) (n p : ℕ) (has : Bool) (g : Progress) : Type 0 where
   pub cuts : Cuts-in line n
@@ -75,3 +64,13 @@ pub record Stepped (e : Run) (cs : List ℤ) (p : ℕ) (has : Bool) (g : Progres
   pub begun : begunIn r ≡ begunAfter p has (begunIn g)
   pub count : r .count ≡ g .count + length (endedAt e cs p has (begunIn g))
   pub buffer : after ≡ laid before (2 * g .count) (flat (endedAt e cs p has (begunIn g)))
+
+-- nothing has begun, and nothing is written
+abbrev pub fresh : Progress
+fresh = record { begun = false; since = 0; count = 0 }
+
+-- the loop of `write_spans` where it comes to an interval: the progress and the buffer that so many steps from the lent one on leave, each by `step`'s contract
+pub data Walked (e : Run) (cs : List ℤ) (has : ℕ → Bool) (lent : List ℤ) : ℕ → Progress → List ℤ → Type 0 where
+  none : Walked e cs has lent zero fresh lent
+  next : (p : ℕ) (g r : Progress) (now after : List ℤ) → Walked e cs has lent p g now → Stepped e cs p (has p) g now after r →
+      Walked e cs has lent (suc p) r after

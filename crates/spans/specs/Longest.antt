@@ -26,11 +26,11 @@ head : {r : Run} {rs : List Run} → r ∈ (r ∷ rs)
 head = List·Memᴰ·head refl
 
 -- a run covers its top
-own : (r : Run) → Ordered r → Covers r (r .top)
+pub own : (r : Run) → Ordered r → Covers r (r .top)
 own r f = record { above = inr (≤-refl (r .top)); below = inr (f .order) }
 
 -- each run of the list is ordered
-ordered-in : (rs : List Run) → Apart rs → (r : Run) → r ∈ rs → Ordered r
+pub ordered-in : (rs : List Run) → Apart rs → (r : Run) → r ∈ rs → Ordered r
 ordered-in [] a r m = absurd (List·Memᴰ·not-nil m)
 ordered-in (s ∷ rs) a r m = ⊎-elim (λ e. subst Ordered (sym e) (a .0)) (λ n. ordered-in rs (a .2) r n) (List·Memᴰ·cases-cons m)
 
@@ -153,7 +153,7 @@ module _ (line : Run) (proper : Ordered line) (cs : List ℤ) (rising : Asc cs) 
   cut p h = ranged (nth cs p) (nth-in cs p h)
 
   -- before a cut an interval ends
-  at-cut : (p : ℕ) → p < length cs → bottom p ≡ predℤ (nth cs p)
+  pub at-cut : (p : ℕ) → p < length cs → bottom p ≡ predℤ (nth cs p)
   at-cut p h = inner-bottom (line .bottom) NO-BOTTOM cs p h
 
   -- behind the last cut the line ends
@@ -172,7 +172,7 @@ module _ (line : Run) (proper : Ordered line) (cs : List ℤ) (rising : Asc cs) 
       go (yes k) = (inr (omega (ints, at, cut p (omega arith) .0)), k)
       go (no k) = let z : ⊥ = omega (ints, at, nth-gt cs i p rising (omega arith) (omega arith)) in absurd z
 
-  of-above : (p : ℕ) (i : ℤ) → (line .top ≡ NO-TOP) ⊎ (line .top ≤ℤ i) → p ≤ upto cs i → (top p ≡ NO-TOP) ⊎ (top p ≤ℤ i)
+  pub of-above : (p : ℕ) (i : ℤ) → (line .top ≡ NO-TOP) ⊎ (line .top ≤ℤ i) → p ≤ upto cs i → (top p ≡ NO-TOP) ⊎ (top p ≤ℤ i)
   of-above zero i a h = a
   of-above (suc p) i a h = inr (nth-le cs i p h)
 
@@ -203,7 +203,7 @@ module _ (line : Run) (proper : Ordered line) (cs : List ℤ) (rising : Asc cs) 
   block a q = run (top a) (bottom q)
 
   -- it covers exactly those
-  block-covers : (a q : ℕ) (i : ℤ) → a ≤ length cs → Covers (block a q) i ↔ (Covers line i × (a ≤ upto cs i) × (upto cs i ≤ q))
+  pub block-covers : (a q : ℕ) (i : ℤ) → a ≤ length cs → Covers (block a q) i ↔ (Covers line i × (a ≤ upto cs i) × (upto cs i ≤ q))
   block-covers a q i h = (
     λ c. let u = above-of a i h (c .above) in let v = below-of q i (c .below) in (record { above = u .0; below = v .0 }, u .1, v .1),
     λ w. record { above = of-above a i (w .0 .above) (w .1); below = of-below q i (w .0 .below) (w .2) },
@@ -223,7 +223,7 @@ module _ (line : Run) (proper : Ordered line) (cs : List ℤ) (rising : Asc cs) 
       go (no k) = let u = no-cut q (omega arith) in (omega (ints, proper .order), omega ints)
 
   -- its top is not below its bottom
-  block-order : (a q : ℕ) → a ≤ q → q ≤ length cs → top a ≤ℤ bottom q
+  pub block-order : (a q : ℕ) → a ≤ q → q ≤ length cs → top a ≤ℤ bottom q
   block-order zero q h l = bottom-range q .0
   block-order (suc a) q h l = go (decLt q (length cs))
     where
@@ -234,7 +234,7 @@ module _ (line : Run) (proper : Ordered line) (cs : List ℤ) (rising : Asc cs) 
       go (no k) = let u = no-cut q (omega arith) in omega (ints, cut a (omega arith) .1)
 
   -- so it is a run
-  block-ordered : (a q : ℕ) → a ≤ q → q ≤ length cs → Ordered (block a q)
+  pub block-ordered : (a q : ℕ) → a ≤ q → q ≤ length cs → Ordered (block a q)
   block-ordered a q h l = record {
     low = omega (ints, proper .low, top-range a (omega arith) .0);
     order = block-order a q h l;
@@ -242,7 +242,7 @@ module _ (line : Run) (proper : Ordered line) (cs : List ℤ) (rising : Asc cs) 
   }
 
   -- each interval begins below the one before
-  tops-rise : (p : ℕ) → p < length cs → top p <ℤ top (suc p)
+  pub tops-rise : (p : ℕ) → p < length cs → top p <ℤ top (suc p)
   tops-rise zero h = cut 0 h .0
   tops-rise (suc p) h = nth-asc cs p rising h
 

@@ -30,7 +30,7 @@ returns : tie.Need-returns
 returns c = not-begun _ _ _ _ _ _ _ _ (not-true _ (c .if1 .taken))
 
 returns-2 : tie.Need-returns-2
-returns-2 c = goes-on _ _ _ _ _ _ _ _ (not-false _ (c .before .if1 .left)) (c .if2 .taken)
+returns-2 c = goes-on _ _ _ _ _ _ _ _ (not-false _ (search needs)) (search needs)
 
 top-requires : tie.Need-top-requires
 top-requires c κs = search needs
