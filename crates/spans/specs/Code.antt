@@ -25,7 +25,7 @@ pub record To-write (buffer : List ℤ) (table : List ℕ) (a A : ℕ) (line : L
 unfoldable pub laid : List ℤ → ℕ → List ℤ → List ℤ
 laid l at vs = (take at l ++ vs) ++ drop (at + length vs) l
 
--- the code's two numbers as what they mean
+-- the code's flag and number as what they mean
 abbrev pub begunAt : Bool → ℕ → Begun
 begunAt true s = since s
 begunAt false s = outside
@@ -34,7 +34,7 @@ begunAt false s = outside
 abbrev pub begunIn : Progress → Begun
 begunIn g = begunAt (g .begun) (g .since)
 
--- a span begins before the next interval
+-- the span that has begun, if there is one, began before interval p
 abbrev pub Earlier : Begun → ℕ → Type 0
 Earlier outside p = Unit {0}
 Earlier (since s) p = s < p

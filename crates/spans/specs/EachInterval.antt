@@ -50,8 +50,8 @@ pub after-one : (H : Hole) (number : ℤ → ℕ) (rs : List Run) (p : ℕ) (len
     After-interval H number rs p lent now k → After-interval H number rs p lent now′ k′ → (now ≡ now′) × (k ≡ k′)
 after-one H number rs p lent now now′ k k′ w w′ =
     let e : w .ended ≡ w′ .ended =
-    parts-one (Ended-before H number p) (w .ended) (w′ .ended) (w .others) (w′ .others) (sym (w .all) ∙ w′ .all) (w .before) (w .not-before) (w′ .before)
-    (w′ .not-before) in (
+    parts-one (Ended-before H number p) (w .ended) (w′ .ended) (w .others) (w′ .others) (sym (w .all) ∙ w′ .all) (w .ended-before)
+    (w .not-ended-before) (w′ .ended-before) (w′ .not-ended-before) in (
       w .written .buffer ∙ ap (λ x. flat x ++ drop (length (flat x)) lent) e ∙ sym (w′ .written .buffer),
       w .written .count ∙ ap length e ∙ sym (w′ .written .count),
     )
@@ -207,10 +207,10 @@ module _ (h : Held) (R : InRange h) (number : ℤ → ℕ) (size : ℕ) (P : Pie
         ended = W .ended;
         others = W .others;
         all = a;
-        before = λ r m i o e.
+        ended-before = λ r m i o e.
             let k : r ∈ rs = subst (λ x. r ∈ x) (sym a) (Memᴰ·append-left (W .others) m) in
             above-all line proper cs rising ranged p r i (ordered-in rs (L .apart) r k) (W .above r m) (C i .1 o) (sym (same .0 i o) ∙ e);
-        not-before = λ r m f.
+        not-ended-before = λ r m f.
             let o = C (top-from (line .top) cs p) .0 (t .0) in
             omega (ints, W .below r m, f (top-from (line .top) cs p) o (same .0 (top-from (line .top) cs p) o ∙ t .1));
         written = W .written;
@@ -222,7 +222,7 @@ module _ (h : Held) (R : InRange h) (number : ℤ → ℕ) (size : ℕ) (P : Pie
     ended = rs;
     others = [];
     all = sym (append-nil rs);
-    before = λ r m i o e. let z : ⊥ = omega (arith, e, P .below i o) in absurd z;
-    not-before = λ r m f. List·Memᴰ·not-nil m;
+    ended-before = λ r m i o e. let z : ⊥ = omega (arith, e, P .below i o) in absurd z;
+    not-ended-before = λ r m f. List·Memᴰ·not-nil m;
     written = subst (λ x. Spans-written x lent now k) (sym these) w;
   }

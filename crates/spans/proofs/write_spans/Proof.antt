@@ -64,8 +64,8 @@ module _ (c : tie.At-loop Inv-loop μ-loop) where
     room = r;
   }
 
-  -- 02, Slip 3, of the loop as it runs: each time it comes to its head after an interval p, with the hole and the cuts of what is held, the buffer holds
-  -- exactly the spans that ended before p, and is as lent behind them
+  -- 02, Slip 3, of the loop as it runs: each time it comes to its head after an interval p, the last time too, with the hole and the cuts of what is held,
+  -- the buffer holds exactly the spans that ended before p, and is as lent behind them
   pub each-interval-here : (h : Held) → InRange h → start .args .hole ≡ holeIn h → line ≡ cutsOf h →
       (number : ℤ → ℕ) (size : ℕ) → Pieces (holeIn h) (h .marks) number size →
       (rs : List Run) → Longest (λ i. InHole (holeIn h) i × T (has (number i))) rs →
