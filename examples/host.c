@@ -1,8 +1,8 @@
 /*
  * A host program: lends its memory to the library, feeds it a small section record by record and prints what it says.
  * The section is the worked example of the specification, then a question beside the records, calls with null pointers
- * where the length is 0, a mark with top and bottom, a rule list by the new counting, a hole with two ends, and at last
- * a pad of two wells, one of them contradictory.
+ * where the length is 0, a mark with top and bottom, a rule list by the new counting, a hole with two ends, a pad of
+ * two wells, one of them contradictory, and at last a rule list that is held to the print profile.
  */
 #include <harmikse.h>
 
@@ -16,7 +16,7 @@ static uint8_t links[HARMIKSE_LINK_BYTES];
 static int32_t spans[HARMIKSE_SPAN_NUMBERS];
 
 /* The records, as they come over the line. */
-static uint8_t stream[512];
+static uint8_t stream[1024];
 static size_t stream_len;
 
 static void put_number(uint64_t number, int bytes)
@@ -50,6 +50,12 @@ static void give_hole(int32_t top, int32_t bottom)
     begin(18, 8);
     put_number((uint32_t)top, 4);
     put_number((uint32_t)bottom, 4);
+}
+
+/* From here on rules are held to the print profile. */
+static void switch_profile_on(void)
+{
+    begin(21, 0);
 }
 
 /* The operators without a distance: 2 is BETWEEN, 3 ABOVE, 4 BELOW and 5 ANYWHERE. */
@@ -268,6 +274,25 @@ static void write_parted(void)
     ask_spans(3, 0);
 }
 
+/*
+ * The paper log shows marked hole only. ANYWHERE would reach beyond it: the profile can't be switched on while such a
+ * rule is held, and while it is on the rule is refused. BETWEEN stays within the marks.
+ */
+static void write_profile(void)
+{
+    reset();
+    add_operator(5, 1, 2);
+    switch_profile_on();
+    reset();
+    switch_profile_on();
+    add_operator(5, 1, 2);
+    add_operator(2, 1, 2);
+    put_label(0, 1, 100);
+    put_label(0, 1, 140);
+    ask_spans(0, 2);
+    query_label(0, 2, 99);
+}
+
 /* Hands over what is left of the stream, record by record; fails where a record is not used. */
 static int feed(void)
 {
@@ -311,5 +336,8 @@ int main(void)
     ask_beside(0, 1);
     ask_beside(3, 1);
     write_parted();
+    if (feed() != 0)
+        return 1;
+    write_profile();
     return feed();
 }

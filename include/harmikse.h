@@ -5,10 +5,10 @@
  * nothing and has no global state. It needs memcpy and memset, and nothing else of the C library. The archive is for
  * x86-64.
  *
- *   block   the state: every rule and mark accepted since the last RESET and not taken since, the counting and the
- *           hole. All zeros is the empty state. Keep it from call to call and write it with nothing else: a block that
- *           no run of records leads to is refused with 2. That is no checksum: a changed byte may make another block
- *           that some run leads to.
+ *   block   the state: every rule accepted since the last RESET, every mark accepted since then and not taken, the
+ *           counting, the hole and the print profile. All zeros is the empty state. Keep it from call to call and write
+ *           it with nothing else: a block that no run of records leads to is refused with 2. That is no checksum: a
+ *           changed byte may make another block that some run leads to.
  *   labels  the label table, 64-bit numbers: entry item * 193 + piece, bit = label.
  *   links   the link table, bytes: entry (from * 16 + to) * 193 + piece, bit = link kind.
  *   spans   the span buffer: pairs of top and bottom, in centimetres, the longest runs of consecutive depths, shallow
@@ -49,6 +49,7 @@
  *   14, 16  PUT, TAKE link       from, link kind, to, top, bottom  13
  *   17      COUNTING             1 (old) or 2 (new)                3
  *   18      HOLE                 top, bottom                       10
+ *   21      PROFILE              none                              2
  *
  * Items are 0 to 15, link kinds 0 to 7, labels 0 to 63: 0 is EVERY, which holds for every item at every depth, 63 is
  * NEVER, which may hold nowhere. A link may lead from an item to itself. A rule's left labels are 0 to 62 and its
@@ -84,6 +85,17 @@
  * later hole replaces the one before, and it stays when the last mark is taken. The empty state has no hole, and RESET
  * goes back to that.
  *
+ * Profile: for a paper log, which shows only what lies between marks. A rule is in the print profile unless it is a
+ * LABEL or LINKRULE with ABOVE, BELOW or ANYWHERE, a LABEL with EVERY on its left, by WITHIN and BETWEEN too, or a BOTH
+ * with EVERY twice; BOTH with EVERY once is in it, and so is each VIA. Kind 21 switches the profile on; it is refused
+ * with 20 while a rule outside is held, and done where the profile is on already; marks, counting and hole don't
+ * matter. Send it before the rules: a rule can't be taken, so after that refusal only RESET helps. While it is on a
+ * rule outside is refused with 20. The empty state has it off, RESET switches it off, and nothing else does. It alters
+ * no answer to a question. But where all held rules are in it, on or off, no label but EVERY and no link, of any item,
+ * holds above the shallowest or below the deepest marked depth, among all held marks: a question for one of these there
+ * is answered no, or contradiction, which goes first, and every span of such a label has both ends, at those depths or
+ * between them. Without marks the answer for one of these is no, or no spans.
+ *
  * Contradiction: a question is about its item, a link question about both its ends. Items are joined where a chain of
  * links leads from one to the other, held or derived, of any kind, followed either way, at any depths; an item is
  * joined to itself. A question is answered contradiction exactly if an item joined to one that it is about has NEVER
@@ -118,7 +130,10 @@ extern "C" {
 #define HARMIKSE_PIECES 193
 #define HARMIKSE_MOST_SPANS 97
 
-/* In a pair: no end on that side. Where there is a hole, every span has both ends. */
+/*
+ * In a pair: no end on that side. Where there is a hole, every span has both ends, and so has every span of a label
+ * other than EVERY where all held rules are in the print profile.
+ */
 #define HARMIKSE_NO_TOP INT32_MIN
 #define HARMIKSE_NO_BOTTOM INT32_MAX
 
@@ -139,7 +154,7 @@ enum harmikse_answer {
     HARMIKSE_REFUSED = 6        /* value: one of the numbers below */
 };
 
-/* Where several apply, the first in the order 1 to 7, 15, 8, 14, 16, 17, 9 to 12 is given; end is between 2 and 3. */
+/* Where several apply, the first in the order 1 to 7, 15, 8, 14, 16, 17, 20, 9 to 12 is given; end is after 2. */
 enum harmikse_refusal {
     HARMIKSE_SHORT_MEMORY = 1,   /* block, a table or span buffer too short */
     HARMIKSE_BAD_BLOCK = 2,      /* a block that no run of records from all zeros leads to */
@@ -156,7 +171,9 @@ enum harmikse_refusal {
     HARMIKSE_BAD_STRETCH = 14,   /* a mark's or a hole's top deeper than its bottom; tested after 8 and before 16 */
     HARMIKSE_RULES_HELD = 15,    /* kind 17 while a rule is held; tested after 7 and before 8 */
     HARMIKSE_OUTSIDE_HOLE = 16,  /* a mark to put that reaches outside the hole; tested after 14 and before 17 */
-    HARMIKSE_MARKS_HELD = 17     /* kind 18 while a mark is held; tested after 16 and before 9 */
+    HARMIKSE_MARKS_HELD = 17,    /* kind 18 while a mark is held; tested after 16 and before 20 */
+    /* a rule outside the profile while it is on, or kind 21 while such a rule is held; tested after 17 and before 9 */
+    HARMIKSE_OUTSIDE_PROFILE = 20
 };
 
 /*

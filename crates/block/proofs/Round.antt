@@ -17,6 +17,8 @@ use Rattle.codec.specs.Bytes.{little, bytes}
 use Rattle.codec.proofs.Laws.{little-same, little-bytes, length-bytes}
 use Rattle.terms.specs.declared.Counting.{Counting}
 use Rattle.terms.specs.declared.Counting.the-variants.{Old, New}
+use Rattle.terms.specs.declared.Profile.{Profile}
+use Rattle.terms.specs.declared.Profile.the-variants.{Off, On}
 use Rattle.terms.specs.declared.Hole.{Hole}
 use Rattle.terms.specs.declared.Hole.the-variants.{Whole, Part}
 use Rattle.terms.specs.declared.Operator.{Operator}
@@ -38,6 +40,7 @@ use Rattle.terms.specs.Lists.{every, limits}
 use Rattle.terms.specs.Limited.{Limited, limited}
 use Rattle.places.specs.Layout.{
   countingByte,
+  profileByte,
   holeBytes,
   settingsBytes,
   placeBytes,
@@ -57,7 +60,7 @@ use Rattle.places.specs.Layout.{
   encode,
 }
 use Rattle.places.specs.Sizes.{settings-length, settings-size, rule-size, mark-size, length-padded}
-use Rattle.places.specs.Read.{countingFrom, holeFrom, settingsAt, ruleOf, ruleRead, markOf, markRead}
+use Rattle.places.specs.Read.{countingFrom, holeFrom, profileFrom, settingsAt, ruleOf, ruleRead, markOf, markRead}
 use Rattle.block.specs.Block.{tab, readHeld, sameBytes, unreadable, holds, good, decode}
 use Rattle.block.proofs.Tab.{tab-is, cat-get, length-cat}
 use Rattle.block.proofs.Pack.{zeros-add}
@@ -85,6 +88,10 @@ no-count = refl
 fresh-zero : padded (HEADER - SETTINGS-AT) (settingsBytes freshSettings) ≡ zeros (HEADER - SETTINGS-AT)
 unfolding settingsBytes endsBytes bytes zeros
 fresh-zero = refl
+
+profile-back : (p : Profile) → profileFrom (profileByte p) ≡ p
+profile-back Off = refl
+profile-back On = refl
 
 counting-back : (c : Counting) → countingFrom (countingByte c) ≡ c
 counting-back Old = refl
@@ -175,28 +182,28 @@ mark-back s at m t h =
 
 -- the settings in their bytes
 settings-place :
-    (s : List ℕ) (k f : ℕ) (t d : ℤ) → SFits w32 t → SFits w32 d → Stands MARK-BYTES s SETTINGS-AT (endsBytes k 0 f 0 t d) →
-    settingsAt s ≡ record { counting = countingFrom k; hole = holeFrom f t d }
+    (s : List ℕ) (k p f : ℕ) (t d : ℤ) → SFits w32 t → SFits w32 d → Stands MARK-BYTES s SETTINGS-AT (endsBytes k p f 0 t d) →
+    settingsAt s ≡ record { counting = countingFrom k; hole = holeFrom f t d; profile = profileFrom p }
 unfolding endsBytes bytes
-settings-place s k f t d F G h =
-    let v : List ℕ = endsBytes k 0 f 0 t d in
+settings-place s k p f t d F G h =
+    let v : List ℕ = endsBytes k p f 0 t d in
     let x : ℕ = ofZ w32 t in
     let y : ℕ = ofZ w32 d in
     let counting = first-back MARK-BYTES s SETTINGS-AT v h (lit< tt) in
-    let top = number-back MARK-BYTES s SETTINGS-AT v h 4 4 (omega arith) ∙ count-back 4 x 4 (k ∷ 0 ∷ f ∷ 0 ∷ []) (bytes 4 y) refl (ofZ-fits w32 t F .fits) in
-    let bottom = number-back MARK-BYTES s SETTINGS-AT v h 4 8 (omega arith) ∙ count-back 4 y 8 (k ∷ 0 ∷ f ∷ 0 ∷ bytes 4 x) [] refl (ofZ-fits w32 d G .fits) in
-    rw (counting, h .same 2 (lit< tt), top, bottom, toZ-ofZ w32 t F, toZ-ofZ w32 d G)
+    let top = number-back MARK-BYTES s SETTINGS-AT v h 4 4 (omega arith) ∙ count-back 4 x 4 (k ∷ p ∷ f ∷ 0 ∷ []) (bytes 4 y) refl (ofZ-fits w32 t F .fits) in
+    let bottom = number-back MARK-BYTES s SETTINGS-AT v h 4 8 (omega arith) ∙ count-back 4 y 8 (k ∷ p ∷ f ∷ 0 ∷ bytes 4 x) [] refl (ofZ-fits w32 d G .fits) in
+    rw (counting, h .same 1 (lit< tt), h .same 2 (lit< tt), top, bottom, toZ-ofZ w32 t F, toZ-ofZ w32 d G)
 
 set-back :
-    (s : List ℕ) (c : Counting) (H : Hole) → T (isHole H) → Stands MARK-BYTES s SETTINGS-AT (holeBytes (countingByte c) H) →
-    settingsAt s ≡ record { counting = c; hole = H }
-set-back s c Whole g h =
-    settings-place s (countingByte c) _ (pos 0) (pos 0) (record { sfits = omega arith }) (record { sfits = omega arith }) h
-    ∙ ap (λ (x : Counting). record { counting = x; hole = Whole }) (counting-back c)
-set-back s c (Part t d) g h =
+    (s : List ℕ) (c : Counting) (H : Hole) (p : Profile) → T (isHole H) →
+    Stands MARK-BYTES s SETTINGS-AT (holeBytes (countingByte c) (profileByte p) H) → settingsAt s ≡ record { counting = c; hole = H; profile = p }
+set-back s c Whole p g h =
+    settings-place s (countingByte c) (profileByte p) _ (pos 0) (pos 0) (record { sfits = omega arith }) (record { sfits = omega arith }) h
+    ∙ (λ i. record { counting = counting-back c i; hole = Whole; profile = profile-back p i })
+set-back s c (Part t d) p g h =
     let w = and-both (isDepth t) (isDepth d) (and-both (isDepth t && isDepth d) (leZ t d) g .0) in
-    settings-place s (countingByte c) _ t d (depth-fits t (w .0)) (depth-fits d (w .1)) h
-    ∙ ap (λ (x : Counting). record { counting = x; hole = Part t d }) (counting-back c)
+    settings-place s (countingByte c) (profileByte p) _ t d (depth-fits t (w .0)) (depth-fits d (w .1)) h
+    ∙ (λ i. record { counting = counting-back c i; hole = Part t d; profile = profile-back p i })
 
 -- ---- the whole block
 
@@ -299,7 +306,7 @@ module _ (h : Held) (within : T (limits h)) (t : List ℕ) where
   settings-back : settingsAt block ≡ h .settings
   unfolding settingsBytes
   settings-back =
-      set-back block (h .settings .counting) (h .settings .hole) (k .settings)
+      set-back block (h .settings .counting) (h .settings .hole) (h .settings .profile) (k .settings)
       (record { same = λ j l. setting-stands j (omega (arith, settings-length (h .settings))) })
 
   none : Rule

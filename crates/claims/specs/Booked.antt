@@ -16,7 +16,8 @@ use Rattle.terms.specs.declared.Question.{Question}
 use Rattle.terms.specs.declared.Rule.{Rule}
 use Rattle.terms.specs.declared.Tested.{Tested}
 use Rattle.terms.specs.declared.Tested.the-variants as Tested
-use Rattle.terms.specs.Held.{Held, withRules, withMarks, withCounting, withHole, emptyHeld}
+use Rattle.terms.specs.declared.Profile.the-variants.{On}
+use Rattle.terms.specs.Held.{Held, withRules, withMarks, withCounting, withHole, withProfile, emptyHeld}
 use Rattle.terms.specs.Limited.{InRange}
 use Rattle.terms.specs.Lists.{strike}
 use Rattle.refusals.specs.Refusals.{rank, tested, test, Test}
@@ -35,6 +36,7 @@ use Rattle.commands.specs.Call.{Outcome, Refused, Ended, Changed, Asked, obey, 
 use Rattle.claims.specs.Table.{
   Counts,
   Confines,
+  Restricts,
   Said,
   Empties,
   Adds,
@@ -67,6 +69,7 @@ use Rattle.claims.specs.Reference.{
   struck,
   counted,
   confined,
+  restricted,
   answered,
 }
 use Rattle.claims.specs.Kinds.{saidOf, said-command}
@@ -122,6 +125,7 @@ module _ (h : Held) (f : Fed) where
   by-command (Command.Take m) e l d Told.changed = struck (record { passes = e; left = l; says = d })
   by-command (Command.Count c) e l d Told.changed = counted (record { passes = e; left = l; says = d })
   by-command (Command.Confine t b) e l d Told.changed = confined (record { passes = e; left = l; says = d })
+  by-command Command.Restrict e l d Told.changed = restricted (record { passes = e; left = l; says = d })
   by-command (Command.Ask q) e l d (Told.asked r w) = answered r (record { passes = e; left = l; says = d }) w
 
   by-left :
@@ -149,6 +153,7 @@ module _ (h : Held) (f : Fed) where
     take-entry : {m : Mark} → Entry Tested.Passed false (Takes m) (plain Answer.Done (recordUsed f)) (withMarks h (strike (sameMark m) (h .marks)))
     count-entry : {c : Counting} → Entry Tested.Passed false (Sets (Counts c)) (plain Answer.Done (recordUsed f)) (withCounting h c)
     confine-entry : {t b : ℤ} → Entry Tested.Passed false (Sets (Confines t b)) (plain Answer.Done (recordUsed f)) (withHole h (Part t b))
+    restrict-entry : Entry Tested.Passed false (Sets Restricts) (plain Answer.Done (recordUsed f)) (withProfile h On)
     ask-entry : {q : Question} (r : Reply) → Decides h q r → Entry Tested.Passed false (Asks q) (shown r (recordUsed f)) h
 
   entry-one : {t : Tested} {v : Bool} {x : Said} {r r′ : Result} {k k′ : Held} → Entry t v x r k → Entry t v x r′ k′ → (r ≡ r′) × (k ≡ k′)
@@ -160,6 +165,7 @@ module _ (h : Held) (f : Fed) where
   entry-one take-entry take-entry = (refl, refl)
   entry-one count-entry count-entry = (refl, refl)
   entry-one confine-entry confine-entry = (refl, refl)
+  entry-one restrict-entry restrict-entry = (refl, refl)
   entry-one (ask-entry {q = q} r d) (ask-entry r′ e) = (ap (λ w. shown w (recordUsed f)) (at-most-one h q r r′ d e), refl)
 
   abbrev Here : Result → Held → Type 0
@@ -182,6 +188,7 @@ module _ (h : Held) (f : Fed) where
   entry (struck a) = accepted-here a take-entry
   entry (counted a) = accepted-here a count-entry
   entry (confined a) = accepted-here a confine-entry
+  entry (restricted a) = accepted-here a restrict-entry
   entry (answered r a d) = accepted-here a (ask-entry r d)
 
   -- the book has at most one result for each feeding, and holds one thing then

@@ -12,11 +12,13 @@ use Rattle.terms.specs.declared.Atom.the-variants.{Has}
 use Rattle.terms.specs.declared.Question.{Question}
 use Rattle.terms.specs.declared.Question.the-variants as Question
 use Rattle.terms.specs.declared.Hole.{Hole}
+use Rattle.terms.specs.declared.Mark.{Mark}
 use Rattle.terms.specs.Limits.{INTERVALS}
 use Rattle.terms.specs.Holes.{InHole}
 use Rattle.terms.specs.Held.{_∈_, Held, holeIn}
 use Rattle.terms.specs.Lists.{limits}
 use Rattle.logic.specs.Depths.{Derived}
+use Rattle.logic.specs.Printed.{Within-marks}
 use Rattle.terms.specs.Spans.{Run, Longest, flat}
 use Rattle.line.specs.Pieces.{Pieces}
 use Rattle.tables.specs.Shows.{Shows}
@@ -51,9 +53,17 @@ pub record Runs-written (S : ℤ → Type 0) (n : ℕ) (spans : List ℤ) : Type
   pub number : length runs ≡ n
   pub written : take (2 * n) spans ≡ flat runs
 
--- 02, Slip 5: each number of the pairs in it lies in the hole
+-- each number of the pairs in it has P
+abbrev pub Ends-in : (ℤ → Type 0) → ℕ → List ℤ → Type 0
+Ends-in P n spans = (i : ℤ) → i ∈ take (2 * n) spans → P i
+
+-- 02, Slip 5: it lies in the hole
 abbrev pub Ends-inside : Hole → ℕ → List ℤ → Type 0
-Ends-inside H n spans = (i : ℤ) → i ∈ take (2 * n) spans → InHole H i
+Ends-inside H n spans = Ends-in (InHole H) n spans
+
+-- 02, Slip 10: it is not above the shallowest nor below the deepest marked depth
+abbrev pub Ends-within : List Mark → ℕ → List ℤ → Type 0
+Ends-within ms n spans = Ends-in (Within-marks ms) n spans
 
 -- where it is clear that there is no contradiction: yes exactly if it is so, no exactly if it is not; spans cover exactly the depths where it is so
 abbrev pub Told-by : Type 0 → (Atom → ℤ → Type 0) → (Atom → ℤ → Type 0) → Question → After → Type 0

@@ -177,6 +177,7 @@ asks-command (Command.Put k) q e = differ (cc)
 asks-command (Command.Take k) q e = differ (cc)
 asks-command (Command.Count k) q e = differ (cc)
 asks-command (Command.Confine t b) q e = differ (cc)
+asks-command Command.Restrict q e = differ (cc)
 asks-command (Command.Ask p) q e = let f : p ≡ q = cc in ap Command.Ask f
 
 module _ (m : Buffers) (s : List ℕ) (h : Held) (q : Question) (a : Asking m s h q) where

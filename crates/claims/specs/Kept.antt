@@ -16,8 +16,10 @@ use Rattle.terms.specs.Limits.{RULES, MARKS, DEPTHS}
 use Rattle.terms.specs.declared.Tested.the-variants as Tested
 use Rattle.refusals.specs.Refusals.{Test, test, tested}
 use Rattle.terms.specs.declared.Hole.the-variants.{Part}
+use Rattle.terms.specs.declared.Profile.the-variants.{On}
 use Rattle.terms.specs.Holes.{isHole, liesIn}
-use Rattle.terms.specs.Held.{Held, holeIn, endsOf, withSettings, withCounting, withHole, isSettings, isRule, isMark, emptyHeld}
+use Rattle.terms.specs.Profiles.{inProfile, admits}
+use Rattle.terms.specs.Held.{Held, holeIn, profileIn, endsOf, withSettings, withCounting, withHole, withProfile, isSettings, isRule, isMark, emptyHeld}
 use Rattle.terms.specs.Same.{sameRule, sameMark}
 use Rattle.terms.specs.SameLaws.{same-rule, rule-same, same-mark, mark-same}
 use Rattle.terms.specs.Lists.{some, every, strike, once, depthCount}
@@ -37,7 +39,7 @@ pub use Rattle.terms.specs.Limited.{
   in-range,
 }
 pub use Rattle.decide.specs.Count.{fewer-ends, few-cuts}
-use Rattle.state.specs.Changes.{ruleTests, roomTests, putTests, confineTests, addRule, putMark, takeMark}
+use Rattle.state.specs.Changes.{listTests, ruleTests, roomTests, putTests, confineTests, restrictTests, addRule, putMark, takeMark}
 
 -- ---- a test that does not apply
 
@@ -68,11 +70,13 @@ empty-limited = record {
   once-marks = tt;
   settings = tt;
   inside = tt;
+  admitted = tt;
 }
 
 pub added-limited : (h : Held) (ρ : Rule) → Limited h → T (isRule ρ) → tested (ruleTests h ρ) ≡ Tested.Passed → Limited (addRule h ρ)
 added-limited h ρ w p e =
-    let t = passed (some (sameRule ρ) (h .rules)) 9 (test (leb RULES (length (h .rules))) 11 ∷ []) e in
+    let o = passed (not (admits (profileIn h) ρ)) 20 (listTests h ρ) e in
+    let t = passed (some (sameRule ρ) (h .rules)) 9 (test (leb RULES (length (h .rules))) 11 ∷ []) (o .1) in
     let u = passed (leb RULES (length (h .rules))) 11 [] (t .1) in
     record {
       few-rules = simp length-append (omega (arith, nleb→lt RULES (length (h .rules)) (u .0)));
@@ -84,6 +88,7 @@ added-limited h ρ w p e =
       once-marks = w .once-marks;
       settings = w .settings;
       inside = w .inside;
+      admitted = every-snoc (admits (profileIn h)) (h .rules) ρ (w .admitted) (twice (admits (profileIn h) ρ) (o .0));
     }
 
 pub put-limited : (h : Held) (m : Mark) → Limited h → T (isMark m) → tested (putTests h m) ≡ Tested.Passed → Limited (putMark h m)
@@ -104,11 +109,13 @@ put-limited h m w p e =
       once-marks = once-snoc sameMark same-mark mark-same (h .marks) m (w .once-marks) (t .0);
       settings = w .settings;
       inside = every-snoc (liesIn (holeIn h)) (h .marks) m (w .inside) (twice (liesIn (holeIn h) m) (o .0));
+      admitted = w .admitted;
     }
 
--- other settings, that may be set, and in whose hole the marks lie
-set-limited : (h : Held) (s : Settings) → Limited h → T (isSettings s) → T (every (liesIn (s .hole)) (h .marks)) → Limited (withSettings h s)
-set-limited h s w p i = record {
+-- other settings, that may be set, in whose hole the marks lie, and whose profile admits the rules
+set-limited : (h : Held) (s : Settings) → Limited h → T (isSettings s) → T (every (liesIn (s .hole)) (h .marks)) → T (every (admits (s .profile)) (h .rules)) →
+    Limited (withSettings h s)
+set-limited h s w p i a = record {
   few-rules = w .few-rules;
   few-marks = w .few-marks;
   few-depths = w .few-depths;
@@ -118,19 +125,27 @@ set-limited h s w p i = record {
   once-marks = w .once-marks;
   settings = p;
   inside = i;
+  admitted = a;
 }
 
 pub counted-limited : (h : Held) (c : Counting) → Limited h → Limited (withCounting h c)
-counted-limited h c w = set-limited h (withCounting h c .settings) w (w .settings) (w .inside)
+counted-limited h c w = set-limited h (withCounting h c .settings) w (w .settings) (w .inside) (w .admitted)
 
 -- a hole, where no mark is held
 pub confined-limited : (h : Held) (t b : ℤ) → Limited h → T (isHole (Part t b)) → tested (confineTests h) ≡ Tested.Passed → Limited (withHole h (Part t b))
 unfolding every
-confined-limited h t b w p e = set-limited h (withHole h (Part t b) .settings) w p (none (h .marks) (passed (ltb 0 (length (h .marks))) 17 [] e .0))
+confined-limited h t b w p e =
+    set-limited h (withHole h (Part t b) .settings) w p (none (h .marks) (passed (ltb 0 (length (h .marks))) 17 [] e .0)) (w .admitted)
   where
     none : (ms : List Mark) → T (not (ltb 0 (length ms))) → T (every (liesIn (Part t b)) ms)
     none [] u = tt
     none (m ∷ ms) u = let z : ⊥ = omega (arith, nltb→le 0 (length (m ∷ ms)) u) in absurd z
+
+-- the profile, where no rule outside it is held
+pub restricted-limited : (h : Held) → Limited h → tested (restrictTests h) ≡ Tested.Passed → Limited (withProfile h On)
+restricted-limited h w e =
+    set-limited h (withProfile h On .settings) w (w .settings) (w .inside)
+    (twice (every inProfile (h .rules)) (passed (not (every inProfile (h .rules))) 20 [] e .0))
 
 pub taken-limited : (h : Held) (m : Mark) → Limited h → Limited (takeMark h m)
 taken-limited h m w = record {
@@ -145,4 +160,5 @@ taken-limited h m w = record {
   settings = w .settings;
   inside = in-every (liesIn (holeIn h)) (strike (sameMark m) (h .marks))
       (λ k n. every-in (liesIn (holeIn h)) (h .marks) (w .inside) k (strike-in (sameMark m) (h .marks) n));
+  admitted = w .admitted;
 }

@@ -21,6 +21,7 @@ pub mod Exactly
 pub mod Determined
 pub mod Outside
 pub mod SpanRecord
+pub mod Printed
 pub mod Elsewhere
 pub mod Values
 pub mod OneCall

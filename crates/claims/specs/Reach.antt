@@ -1,5 +1,5 @@
 -- A block is good exactly if a run of records from zeros leads to it, under `Laws` and with records for rules, marks,
--- countings and holes, which Whole gives.
+-- countings, holes and the profile, which Whole gives.
 use mathlib.Core.Path.{_≡_, refl, sym, ap, _∙_, subst}
 use mathlib.Core.Logic.{⊎-elim, _↔_}
 use mathlib.Core.Bool.{Bool, true, false, not, _||_}
@@ -13,6 +13,8 @@ use lib.ListN.{length, take, drop, replicate, length-append, length-replicate, t
 use Rattle.terms.specs.declared.Counting.{Counting}
 use Rattle.terms.specs.declared.Hole.{Hole}
 use Rattle.terms.specs.declared.Hole.the-variants.{Whole, Part}
+use Rattle.terms.specs.declared.Profile.{Profile}
+use Rattle.terms.specs.declared.Profile.the-variants.{Off, On}
 use Rattle.terms.specs.declared.Rule.{Rule}
 use Rattle.terms.specs.declared.Mark.{Mark}
 use Rattle.terms.specs.Tests.{and-both, true-of, false-of}
@@ -21,10 +23,11 @@ use Rattle.terms.specs.declared.Settings.{Settings}
 use Rattle.terms.specs.declared.Tested.the-variants as Tested
 use Rattle.refusals.specs.Refusals.{tested}
 use Rattle.terms.specs.Holes.{isHole, liesIn}
-use Rattle.terms.specs.Held.{_∈_, Held, endsOf, withCounting, withHole, isRule, isMark, isSettings, emptyHeld}
+use Rattle.terms.specs.Profiles.{admits}
+use Rattle.terms.specs.Held.{_∈_, Held, endsOf, withCounting, withHole, withProfile, isRule, isMark, isSettings, emptyHeld}
 use Rattle.terms.specs.Same.{sameRule, sameMark}
 use Rattle.terms.specs.SameLaws.{same-rule, rule-same, same-mark, mark-same}
-use Rattle.terms.specs.Lists.{some, once, depthCount, limits}
+use Rattle.terms.specs.Lists.{some, every, once, depthCount, limits}
 use Rattle.places.specs.Layout.{SIZE, encode}
 use Rattle.block.specs.Block.{good}
 use Rattle.records.specs.declared.Command.{Command}
@@ -122,7 +125,8 @@ room done todo m h = not-short DEPTHS (depthCount (endsOf (done ++ (m ∷ []))))
 module _ (𝓛 : Laws) (rule-record : (σ : Settings) (ρ : Rule) → T (isRule ρ) → Written σ (Command.Add ρ))
     (mark-record : (σ : Settings) (m : Mark) → T (isMark m) → Written σ (Command.Put m))
     (counting-record : (σ : Settings) (c : Counting) → Written σ (Command.Count c))
-    (hole-record : (σ : Settings) (t b : ℤ) → T (isHole (Part t b)) → Written σ (Command.Confine t b)) where
+    (hole-record : (σ : Settings) (t b : ℤ) → T (isHole (Part t b)) → Written σ (Command.Confine t b))
+    (profile-record : (σ : Settings) → Written σ Command.Restrict) where
   record Reached (h : Held) : Type 0 where
     held : Limited h
     run : Run-to (encode h)
@@ -165,22 +169,33 @@ module _ (𝓛 : Laws) (rule-record : (σ : Settings) (ρ : Rule) → T (isRule 
       let h = withCounting emptyHeld c in
       one-more-record h (withHole h (Part t b)) (Command.Confine t b) (hole-record (h .settings) t b p) refl (λ u. refl) (reach-counting c)
 
+  -- 02, Slip 10: and kind 21 the profile, unless it is off
+  reach-profile : (c : Counting) (H : Hole) (p : Profile) → T (isHole H) → Reached (withProfile (withHole (withCounting emptyHeld c) H) p)
+  unfolding every
+  reach-profile c H Off t = reach-hole c H t
+  reach-profile c H On t =
+      let h = withHole (withCounting emptyHeld c) H in
+      one-more-record h (withProfile h On) Command.Restrict (profile-record (h .settings)) refl (λ u. refl) (reach-hole c H t)
+
   reach-settings : (σ : Settings) → T (isSettings σ) → Reached (of-parts σ [] [])
-  reach-settings σ p = reach-hole (σ .counting) (σ .hole) p
+  reach-settings σ p = reach-profile (σ .counting) (σ .hole) (σ .profile) p
 
   module _ (σ : Settings) where
     reach-rules :
-        (done todo : List Rule) → T (once sameRule (done ++ todo)) → ((ρ : Rule) → ρ ∈ todo → T (isRule ρ)) → length done + length todo ≤ RULES →
-        Reached (of-parts σ done []) → Reached (of-parts σ (done ++ todo) [])
-    reach-rules done [] o p n R = subst (λ v. Reached (of-parts σ v [])) (sym (append-nil done)) R
-    reach-rules done (ρ ∷ todo) o p n R =
+        (done todo : List Rule) → T (once sameRule (done ++ todo)) → ((ρ : Rule) → ρ ∈ todo → T (isRule ρ)) →
+        ((ρ : Rule) → ρ ∈ todo → T (admits (σ .profile) ρ)) → length done + length todo ≤ RULES → Reached (of-parts σ done []) →
+        Reached (of-parts σ (done ++ todo) [])
+    reach-rules done [] o p i n R = subst (λ v. Reached (of-parts σ v [])) (sym (append-nil done)) R
+    reach-rules done (ρ ∷ todo) o p i n R =
         let a = not-before sameRule same-rule rule-same done ρ todo o in
         let b = below RULES (length done) (omega arith) in
+        let d : admits (σ .profile) ρ ≡ true = true-of (admits (σ .profile) ρ) (i ρ (List·Memᴰ·head refl)) in
         let w = rule-record σ ρ (p ρ (List·Memᴰ·head refl)) in
-        let s = one-more-record (of-parts σ done []) (of-parts σ (done ++ (ρ ∷ [])) []) (Command.Add ρ) w (rw (a, b)) (λ u. refl) R in
+        let s = one-more-record (of-parts σ done []) (of-parts σ (done ++ (ρ ∷ [])) []) (Command.Add ρ) w (rw (d, a, b)) (λ u. refl) R in
         let e = append-assoc done (ρ ∷ []) todo in
         subst (λ v. Reached (of-parts σ v [])) e
-        (reach-rules (done ++ (ρ ∷ [])) todo (subst (λ v. T (once sameRule v)) (sym e) o) (λ τ m. p τ (List·Memᴰ·tail m)) (simp length-append (omega arith)) s)
+        (reach-rules (done ++ (ρ ∷ [])) todo (subst (λ v. T (once sameRule v)) (sym e) o) (λ τ m. p τ (List·Memᴰ·tail m))
+        (λ τ m. i τ (List·Memᴰ·tail m)) (simp length-append (omega arith)) s)
 
     module _ (rs : List Rule) where
       reach-marks :
@@ -205,7 +220,8 @@ module _ (𝓛 : Laws) (rule-record : (σ : Settings) (ρ : Rule) → T (isRule 
       let σ = h .settings in
       reach-marks σ (h .rules) [] (h .marks) (w .once-marks) (λ m n. every-in isMark (h .marks) (w .marks) m n)
       (λ m n. every-in (liesIn (σ .hole)) (h .marks) (w .inside) m n) (omega (arith, w .few-marks)) (w .few-depths)
-      (reach-rules σ [] (h .rules) (w .once-rules) (λ ρ n. every-in isRule (h .rules) (w .rules) ρ n) (omega (arith, w .few-rules))
+      (reach-rules σ [] (h .rules) (w .once-rules) (λ ρ n. every-in isRule (h .rules) (w .rules) ρ n)
+      (λ ρ n. every-in (admits (σ .profile)) (h .rules) (w .admitted) ρ n) (omega (arith, w .few-rules))
       (reach-settings σ (w .settings)))
 
   -- and what a run of records leads to is such a block

@@ -10,11 +10,12 @@ use Rattle.terms.specs.declared.Answer.the-variants as Answer
 use Rattle.terms.specs.declared.Counting.{Counting}
 use Rattle.terms.specs.declared.Hole.the-variants.{Part}
 use Rattle.terms.specs.declared.Mark.{Mark}
+use Rattle.terms.specs.declared.Profile.the-variants.{On}
 use Rattle.terms.specs.declared.Question.{Question}
 use Rattle.terms.specs.declared.Rule.{Rule}
 use Rattle.terms.specs.declared.Tested.{Tested}
 use Rattle.terms.specs.declared.Tested.the-variants as Tested
-use Rattle.terms.specs.Held.{Held, withRules, withMarks, withCounting, withHole, emptyHeld}
+use Rattle.terms.specs.Held.{Held, withRules, withMarks, withCounting, withHole, withProfile, emptyHeld}
 use Rattle.terms.specs.Lists.{strike}
 use Rattle.refusals.specs.Refusals.{tested}
 use Rattle.terms.specs.Same.{sameMark}
@@ -22,7 +23,7 @@ use Rattle.terms.specs.Spans.{flat}
 use Rattle.frames.specs.Frames.{lengthField, usedFor}
 use Rattle.decide.specs.Decides.{Yes, No, Spans, Reply, Contradiction, Answered, Decides}
 use Rattle.commands.specs.Buffers.{isShort}
-use Rattle.claims.specs.Table.{Counts, Confines, Said, Empties, Adds, Puts, Takes, Sets, Asks, said, table}
+use Rattle.claims.specs.Table.{Counts, Confines, Restricts, Said, Empties, Adds, Puts, Takes, Sets, Asks, said, table}
 
 -- 01, The book: what it is fed from a record call
 pub record Fed : Type 0 where
@@ -67,7 +68,7 @@ pub data Book (h : Held) (f : Fed) : Result → Held → Type 0 where
   refused : {n : ℕ} → judgement h f ≡ Tested.Refused n → Book h f (plain (Answer.Refused n) (usedFor n (f .bytes))) h
   -- nor does end
   ended : judgement h f ≡ Tested.Passed → length (f .bytes) ≡ 0 → Book h f (plain Answer.End 0) h
-  -- RESET empties both lists, goes back to the old counting and takes the hole away
+  -- RESET empties both lists, goes back to the old counting, takes the hole away and switches the profile off
   emptied : Accepted h f Empties → Book h f (plain Answer.Done (recordUsed f)) emptyHeld
   -- kinds 2 to 5 add their rule at the end of its list, kinds 6, 7, 13 and 14 their mark
   added : {ρ : Rule} → Accepted h f (Adds ρ) → Book h f (plain Answer.Done (recordUsed f)) (withRules h (h .rules ++ (ρ ∷ [])))
@@ -78,6 +79,8 @@ pub data Book (h : Held) (f : Fed) : Result → Held → Type 0 where
   counted : {c : Counting} → Accepted h f (Sets (Counts c)) → Book h f (plain Answer.Done (recordUsed f)) (withCounting h c)
   -- 02, Slip 5: kind 18 sets the hole, in the place of another
   confined : {t b : ℤ} → Accepted h f (Sets (Confines t b)) → Book h f (plain Answer.Done (recordUsed f)) (withHole h (Part t b))
+  -- 02, Slip 10: kind 21 switches the profile on; where it is on already that changes nothing
+  restricted : Accepted h f (Sets Restricts) → Book h f (plain Answer.Done (recordUsed f)) (withProfile h On)
   -- questions change nothing; what is held and the interpretations that satisfy it decide them
   answered : {q : Question} (r : Reply) → Accepted h f (Asks q) → Decides h q r → Book h f (shown r (recordUsed f)) h
 

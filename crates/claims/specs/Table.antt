@@ -14,8 +14,9 @@ use Rattle.terms.specs.Limits.{RULES, MARKS, DEPTHS, isDepth}
 use Rattle.refusals.specs.Refusals.{rank, Test, test}
 use Rattle.terms.specs.Same.{sameMark, sameRule}
 use Rattle.terms.specs.Holes.{liesIn}
-use Rattle.terms.specs.Held.{Held, holeIn, endsOf, isNamed, isMarkable, isPlaced, isOrdered, isQuestion}
-use Rattle.terms.specs.Lists.{some, depthCount}
+use Rattle.terms.specs.Profiles.{inProfile, admits}
+use Rattle.terms.specs.Held.{Held, holeIn, profileIn, endsOf, isNamed, isMarkable, isPlaced, isOrdered, isQuestion}
+use Rattle.terms.specs.Lists.{some, every, depthCount}
 use Rattle.block.specs.Block.{readHeld, good}
 use Rattle.commands.specs.Buffers.{Buffers, short}
 use Rattle.frames.specs.Frames.{lengthField, kindField, bodyOf, allows, isUnknown, lengthsOf}
@@ -39,10 +40,11 @@ use Rattle.records.specs.Formats.{
   spansQuestion,
 }
 
--- 02: what is set until RESET; Slip 4: the counting; Slip 5: the hole, by its top and bottom
+-- 02: what is set until RESET; Slip 4: the counting; Slip 5: the hole, by its top and bottom; Slip 10: the profile, which is switched on
 pub data Setting : Type 0 where
   Counts : Counting → Setting
   Confines : ℤ → ℤ → Setting
+  Restricts : Setting
 
 -- 01, Records: RESET empties, a rule is added, a mark is put or taken, a question asks; 02: something is set; a kind that there is not says nothing
 pub data Said : Type 0 where
@@ -54,7 +56,8 @@ pub data Said : Type 0 where
   Sets : Setting → Said
   Asks : Question → Said
 
--- 01, Records: the table of kinds; 02, Slip 2: 13 and 14 put a stretch, 15 and 16 take one; Slip 4: 17 sets the counting; Slip 5: 18 the hole
+-- 01, Records: the table of kinds; 02, Slip 2: 13 and 14 put a stretch, 15 and 16 take one; Slip 4: 17 sets the counting; Slip 5: 18 the hole; Slip 10:
+-- 21 switches the profile on
 unfoldable pub saidBy : ℕ → List ℕ → Said
 saidBy k b =
     cond (eqb k 1) Empties
@@ -75,16 +78,18 @@ saidBy k b =
     (cond (eqb k 16) (Takes (linkStretch b))
     (cond (eqb k 17) (Sets (Counts (countingAt b)))
     (cond (eqb k 18) (Sets (Confines (holeTop b) (holeBottom b)))
-    Nothing)))))))))))))))))
+    (cond (eqb k 21) (Sets Restricts)
+    Nothing))))))))))))))))))
 
 -- what the first record of these bytes says
 abbrev pub said : List ℕ → Said
 said s = saidBy (kindField s) (bodyOf s)
 
--- one thing for a counting and for a hole each
-abbrev pub onSetting : {A : Type 0} → (Counting → A) → (ℤ → ℤ → A) → Setting → A
-onSetting c b (Counts x) = c x
-onSetting c b (Confines t d) = b t d
+-- one thing for a counting, for a hole and for the profile each
+abbrev pub onSetting : {A : Type 0} → (Counting → A) → (ℤ → ℤ → A) → A → Setting → A
+onSetting c b p (Counts x) = c x
+onSetting c b p (Confines t d) = b t d
+onSetting c b p Restricts = p
 
 -- one thing for a rule, a mark to put, a mark to take, a setting and a question each; another for what says none of these
 abbrev pub onSaid : {A : Type 0} → A → (Rule → A) → (Mark → A) → (Mark → A) → (Setting → A) → (Question → A) → Said → A
@@ -121,16 +126,17 @@ badValue k b = cond (eqb k 2 || eqb k 4) (isInvalid (operatorAt b)) (eqb k 17 &&
 
 -- 15, by 02, Slip 4: a counting while a rule is held
 abbrev pub ruleHeld : Held → Said → Bool
-ruleHeld h = onSaid false (λ ρ. false) (λ m. false) (λ m. false) (onSetting (λ c. ltb 0 (length (h .rules))) (λ t b. false)) (λ q. false)
+ruleHeld h = onSaid false (λ ρ. false) (λ m. false) (λ m. false) (onSetting (λ c. ltb 0 (length (h .rules))) (λ t b. false) false) (λ q. false)
 
 -- 8: a mark's depth out of range; 02, Slip 2: either end; Slip 5: or a hole's
 abbrev pub badDepth : Said → Bool
 badDepth =
-    onSaid false (λ ρ. false) (λ m. not (isPlaced m)) (λ m. not (isPlaced m)) (onSetting (λ c. false) (λ t b. not (isDepth t && isDepth b))) (λ q. false)
+    onSaid false (λ ρ. false) (λ m. not (isPlaced m)) (λ m. not (isPlaced m)) (onSetting (λ c. false) (λ t b. not (isDepth t && isDepth b)) false)
+    (λ q. false)
 
 -- 14, by 02, Slip 2: top deeper than bottom, of a mark; Slip 5: or of a hole
 abbrev pub badOrder : Said → Bool
-badOrder = onSaid false (λ ρ. false) (λ m. not (isOrdered m)) (λ m. not (isOrdered m)) (onSetting (λ c. false) (λ t b. not (leZ t b))) (λ q. false)
+badOrder = onSaid false (λ ρ. false) (λ m. not (isOrdered m)) (λ m. not (isOrdered m)) (onSetting (λ c. false) (λ t b. not (leZ t b)) false) (λ q. false)
 
 -- 16, by 02, Slip 5: a mark to put that reaches outside the hole
 abbrev pub reachesOutside : Held → Said → Bool
@@ -138,7 +144,13 @@ reachesOutside h = onSaid false (λ ρ. false) (λ m. not (liesIn (holeIn h) m))
 
 -- 17, by 02, Slip 5: a hole while a mark is held
 abbrev pub markHeld : Held → Said → Bool
-markHeld h = onSaid false (λ ρ. false) (λ m. false) (λ m. false) (onSetting (λ c. false) (λ t b. ltb 0 (length (h .marks)))) (λ q. false)
+markHeld h = onSaid false (λ ρ. false) (λ m. false) (λ m. false) (onSetting (λ c. false) (λ t b. ltb 0 (length (h .marks))) false) (λ q. false)
+
+-- 20, by 02, Slip 10: a rule outside the profile while it is on, or switching it on while such a rule is held
+abbrev pub outsideProfile : Held → Said → Bool
+outsideProfile h =
+    onSaid false (λ ρ. not (admits (profileIn h) ρ)) (λ m. false) (λ m. false)
+    (onSetting (λ c. false) (λ t b. false) (not (every inProfile (h .rules)))) (λ q. false)
 
 -- 9: a rule, or a mark to put, that is already held
 abbrev pub alreadyHeld : Held → Said → Bool
@@ -168,6 +180,7 @@ saidRows h k b x =
     ∷ test (badOrder x) 14
     ∷ test (reachesOutside h x) 16
     ∷ test (markHeld h x) 17
+    ∷ test (outsideProfile h x) 20
     ∷ test (alreadyHeld h x) 9
     ∷ test (notHeld h x) 10
     ∷ test (listFull h x) 11

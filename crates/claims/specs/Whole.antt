@@ -25,7 +25,8 @@ use Rattle.commands.specs.Call.{Outcome, Refused, heldTests, obey, judged, call
 use Rattle.commands.specs.Buffers.{Buffers, isShort, short}
 use Rattle.claims.specs.Refused.{two-by-block, end-by-block}
 use Rattle.commands.specs.Code.{enough}
-use Rattle.claims.specs.Kept.{Limited, of-limited, in-range, empty-limited, added-limited, put-limited, counted-limited, confined-limited, taken-limited}
+use Rattle.claims.specs.Kept.{Limited, of-limited, in-range, empty-limited, added-limited, put-limited, counted-limited, confined-limited}
+use Rattle.claims.specs.Kept.{restricted-limited, taken-limited}
 use Rattle.claims.specs.Reference.{Fed, Result, Book, Entered, at-first, after-call}
 use Rattle.claims.specs.Exact.{Holding}
 use Rattle.claims.specs.Lives.{fed, Event, Agrees, finished, recorded, beside, Run-to, from-zeros, by-record}
@@ -44,6 +45,7 @@ accepted h (Command.Put m) b u w p e = put-limited h m w p e
 accepted h (Command.Take m) b u w p e = taken-limited h m w
 accepted h (Command.Count c) b u w p e = counted-limited h c w
 accepted h (Command.Confine t d) b u w p e = confined-limited h t d w p e
+accepted h Command.Restrict b u w p e = restricted-limited h w e
 accepted h (Command.Ask q) b u w p e = tt
 
 -- a block that decodes is good
@@ -91,6 +93,7 @@ reached-exactly b l =
     (λ σ m p. written σ (Command.Put m) p)
     (λ σ c. written σ (Command.Count c) tt)
     (λ σ t d p. written σ (Command.Confine t d) p)
+    (λ σ. written σ Command.Restrict tt)
     (λ b l t. let w = good-holding b t in (readHeld b, w .within, w .encoded))
     b l
 

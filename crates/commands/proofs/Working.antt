@@ -1,5 +1,5 @@
 -- What a command leaves is what it comes to. Assumes nothing.
-use mathlib.Core.Path.{_≡_, refl, sym, ap, _∙_}
+use mathlib.Core.Path.{_≡_, refl, sym, ap, subst, _∙_}
 use mathlib.Core.List.{List, _++_}
 use Prim.Native.Nat.{ℕ}
 use lib.IntN.{ℤ}
@@ -20,7 +20,7 @@ use Rattle.records.specs.Parsed.{Parsed}
 use Rattle.records.specs.Parsed as Parsed
 use Rattle.decide.specs.Answer.{answer}
 use Rattle.commands.specs.declared.Reply as Code
-use Rattle.commands.specs.Call.{Refused, Changed, Asked, judged, effect}
+use Rattle.commands.specs.Call.{Refused, Changed, Asked, heldTests, changedBy, judged, effect}
 use Rattle.commands.specs.Buffers.{Buffers, lent, After, after, afterOf}
 use Rattle.questions.specs.Code.{Answered-as}
 use Rattle.commands.specs.Code.{Kept-as, replied-is}
@@ -30,6 +30,12 @@ pub parts :
     {a a′ : Answer} {u u′ : ℕ} {b b′ t t′ k k′ : List ℕ} {s s′ : List ℤ} → a′ ≡ a → u′ ≡ u → b′ ≡ b → t′ ≡ t → k′ ≡ k → s′ ≡ s →
     after a′ u′ (lent b′ t′ k′ s′) ≡ after a u (lent b t k s)
 parts a u b t k s = λ i. after (a i) (u i) (lent (b i) (t i) (k i) (s i))
+
+-- a change, by which command it is
+pub as-changed :
+    (h : Held) (b : List ℕ) {l : Change} (c d : Command) → c ≡ d → Change-as (heldTests h d b) h (changedBy h d b) l →
+    Change-as (heldTests h c b) h (changedBy h c b) l
+as-changed h b {l} c d e f = subst (λ (y : Command). Change-as (heldTests h y b) h (changedBy h y b) l) (sym e) f
 
 module _ (b t k : List ℕ) (s : List ℤ) where
   abbrev m : Buffers

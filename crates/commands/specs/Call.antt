@@ -11,10 +11,11 @@ use Rattle.terms.specs.declared.Question.{Question}
 use Rattle.terms.specs.declared.Question.the-variants as Question
 use Rattle.terms.specs.Limits.{LABEL-ENTRIES, LINK-ENTRIES}
 use Rattle.terms.specs.declared.Hole.the-variants.{Part}
-use Rattle.terms.specs.Held.{Held, withCounting, withHole, emptyHeld}
+use Rattle.terms.specs.declared.Profile.the-variants.{On}
+use Rattle.terms.specs.Held.{Held, withCounting, withHole, withProfile, emptyHeld}
 use Rattle.refusals.specs.Refusals.{Test, test, tested}
 use Rattle.terms.specs.Otherwise.{onTested}
-use Rattle.state.specs.Changes.{ruleTests, putTests, takeTests, countTests, confineTests, addRule, putMark, takeMark}
+use Rattle.state.specs.Changes.{ruleTests, putTests, takeTests, countTests, confineTests, restrictTests, addRule, putMark, takeMark}
 use Rattle.block.specs.Block.{readHeld, good}
 use Rattle.places.specs.Layout.{SIZE, encode}
 use Rattle.records.specs.declared.Command.{Command}
@@ -50,17 +51,34 @@ heldTests h (Command.Put m) b = putTests h m
 heldTests h (Command.Take m) b = takeTests h m
 heldTests h (Command.Count c) b = countTests h
 heldTests h (Command.Confine t d) b = confineTests h
+heldTests h Command.Restrict b = restrictTests h
 heldTests h (Command.Ask q) b = []
+
+-- 01, The book: what is held after an accepted record; questions change nothing
+abbrev pub changedBy : Held → Command → List ℕ → Held
+changedBy h Command.Reset b = emptyHeld
+changedBy h (Command.Add ρ) b = addRule h ρ
+changedBy h (Command.Put m) b = putMark h m
+changedBy h (Command.Take m) b = takeMark h m
+changedBy h (Command.Count c) b = withCounting h c
+changedBy h (Command.Confine t d) b = withHole h (Part t d)
+changedBy h Command.Restrict b = withProfile h On
+changedBy h (Command.Ask q) b = h
+
+-- one thing for a question, another for every other command
+abbrev pub onAsked : {A : Type 0} → (Question → A) → A → Command → A
+onAsked f d Command.Reset = d
+onAsked f d (Command.Add ρ) = d
+onAsked f d (Command.Put m) = d
+onAsked f d (Command.Take m) = d
+onAsked f d (Command.Count c) = d
+onAsked f d (Command.Confine t b) = d
+onAsked f d Command.Restrict = d
+onAsked f d (Command.Ask q) = f q
 
 -- 01, The book: what an accepted record does
 abbrev pub obey : Held → Command → List ℕ → ℕ → Outcome
-obey h Command.Reset b u = Changed emptyHeld u
-obey h (Command.Add ρ) b u = Changed (addRule h ρ) u
-obey h (Command.Put m) b u = Changed (putMark h m) u
-obey h (Command.Take m) b u = Changed (takeMark h m) u
-obey h (Command.Count c) b u = Changed (withCounting h c) u
-obey h (Command.Confine t d) b u = Changed (withHole h (Part t d)) u
-obey h (Command.Ask q) b u = Asked q u
+obey h c b u = onAsked (λ q. Asked q u) (Changed (changedBy h c b) u) c
 
 abbrev pub judged : Held → Parsed → Outcome
 judged h Parsed.Nothing = Ended

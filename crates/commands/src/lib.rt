@@ -4,12 +4,12 @@ ghost use Prim.Native.Nat.{_≤_};
 ghost use lib.Dec.{T};
 ghost use lib.ListN.{length};
 ghost use Rattle.terms.specs.declared.Answer.the-variants as Answer;
-ghost use Rattle.state.specs.State.{heldOf, Counts-in};
+ghost use Rattle.state.specs.State.{heldOf, Counts-in, Change-as};
 ghost use Rattle.places.specs.Layout.{SIZE};
 ghost use Rattle.records.specs.Parsed as Parsed;
 ghost use Rattle.records.specs.Proper.{Proper};
 ghost use Rattle.questions.specs.Code.{Held-state};
-ghost use Rattle.commands.specs.Call.{judged, effect};
+ghost use Rattle.commands.specs.Call.{heldTests, changedBy, judged, effect};
 ghost use Rattle.commands.specs.Buffers.{lent, afterOf};
 ghost use Rattle.commands.specs.Code.{Enough, Kept-as};
 use records::Command;
@@ -58,6 +58,30 @@ fn keep(block: &mut [u8], change: Change, used: usize) -> Reply
     }
 }
 
+// What a command, with its body beside it, makes of what is held. A question leaves it.
+fn changed(command: Command, body: &[u8], state: State) -> Change
+    requires { ⌜ Held-state state × T (Proper command) ⌝ }
+    ensures { λ r. ⌜ Change-as (heldTests (heldOf state) command (now (body .entry))) (heldOf state)
+        (changedBy (heldOf state) command (now (body .entry))) r ⌝ }
+{
+    match command {
+        Command::Reset => Change {
+            tested: Tested::Passed,
+            state: State::empty(),
+        },
+        Command::Add(rule) => state.with_rule(rule),
+        Command::Put(mark) => state.put(mark),
+        Command::Take(mark) => state.take(mark),
+        Command::Count(counting) => state.count(counting),
+        Command::Confine(top, bottom) => state.confine(top, bottom),
+        Command::Restrict => state.restrict(),
+        Command::Ask(_) => Change {
+            tested: Tested::Passed,
+            state,
+        },
+    }
+}
+
 // The work of a command, with its body beside it, on what is held.
 pub fn work(
     command: Command,
@@ -75,18 +99,10 @@ pub fn work(
         (judged (heldOf state) (Parsed.Record command (now (body .entry)) used)) ⌝ }
 {
     match command {
-        Command::Reset => {
-            block::store(block, State::empty());
-            done(used)
-        }
-        Command::Add(rule) => keep(block, state.with_rule(rule), used),
-        Command::Put(mark) => keep(block, state.put(mark), used),
-        Command::Take(mark) => keep(block, state.take(mark), used),
-        Command::Count(counting) => keep(block, state.count(counting), used),
-        Command::Confine(top, bottom) => keep(block, state.confine(top, bottom), used),
         Command::Ask(question) => {
             let answer = questions::answer(state, labels, links, spans, question);
             Reply { answer, used }
         }
+        _ => keep(block, changed(command, body, state), used),
     }
 }

@@ -231,15 +231,15 @@ module _ (h : Held) (R : InRange h) where
   pub decides-exactly : (q : Question) (r : Reply) → (answer h q ≡ r) ↔ Decides h q r
   decides-exactly q r = (λ e. subst (Decides h q) e (answer-decides q), λ d. at-most-one h q (answer h q) r (answer-decides q) d)
 
-  -- ---- 02, Slip 5
+  -- ---- 02, Slips 5 and 10
 
-  -- a question outside the hole is answered no, or contradiction
-  pub outside-no : (x : Atom) (i : ℤ) → (InHole (holeIn h) i → ⊥) → let q = Question.Holds x i in
+  -- a question for what is not derived is answered no, or contradiction
+  pub underived-no : (x : Atom) (i : ℤ) → (Derived h x i → ⊥) → let q = Question.Holds x i in
       (answer h q ≡ Answered No) ⊎ ((a : ℕ) × (answer h q ≡ Contradiction a))
-  outside-no x i o = go (answer h (Question.Holds x i)) (answer-derives (Question.Holds x i))
+  underived-no x i o = go (answer h (Question.Holds x i)) (answer-derives (Question.Holds x i))
     where
       go : (r : Reply) → Derives h (Question.Holds x i) r → (r ≡ Answered No) ⊎ ((a : ℕ) × (r ≡ Contradiction a))
       go (Contradiction a) d = inr (a, refl)
       go (Answered No) d = inl refl
-      go (Answered Yes) d = absurd (o (derived-inside h (d .1)))
+      go (Answered Yes) d = absurd (o (d .1))
       go (Answered (Spans rs)) d = absurd (d .1)

@@ -8,3 +8,4 @@ pub mod Sentences
 pub mod Verdicts
 pub mod Local
 pub mod SpanBuffer
+pub mod Switched

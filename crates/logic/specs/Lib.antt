@@ -14,3 +14,6 @@ pub mod ClassLaws
 pub mod Local
 pub mod Follows
 pub mod Unconcerned
+pub mod Printed
+pub mod PrintedLaws
+pub mod Unprinted

@@ -8,6 +8,8 @@ use Rattle.terms.specs.declared.Counting.{Counting}
 use Rattle.terms.specs.declared.Counting.the-variants.{Old, New}
 use Rattle.terms.specs.declared.Hole.{Hole}
 use Rattle.terms.specs.declared.Hole.the-variants.{Whole, Part}
+use Rattle.terms.specs.declared.Profile.{Profile}
+use Rattle.terms.specs.declared.Profile.the-variants.{Off, On}
 use Rattle.terms.specs.declared.Rule.{Rule}
 use Rattle.terms.specs.declared.Rule.the-variants.{Label, Both, Link, Via}
 use Rattle.terms.specs.declared.Atom.{Atom}
@@ -39,18 +41,22 @@ atomBytes (Linked a r b) t d = endsBytes 7 a r b t d
 abbrev pub markBytes : Mark → List ℕ
 markBytes m = atomBytes (m .atom) (m .top) (m .bottom)
 
--- docs/STATE.md, the settings in the header: the counting, 0 old and 1 new; the profile's byte, zero; the hole, 0 none and 1 there; zero; its
+-- docs/STATE.md, the settings in the header: the counting, 0 old and 1 new; the profile, 0 off and 1 on; the hole, 0 none and 1 there; zero; its
 -- ends, zero where there is none
 abbrev pub countingByte : Counting → ℕ
 countingByte Old = 0
 countingByte New = 1
 
-abbrev pub holeBytes : ℕ → Hole → List ℕ
-holeBytes c Whole = endsBytes c 0 0 0 (pos 0) (pos 0)
-holeBytes c (Part t b) = endsBytes c 0 1 0 t b
+abbrev pub profileByte : Profile → ℕ
+profileByte Off = 0
+profileByte On = 1
+
+abbrev pub holeBytes : ℕ → ℕ → Hole → List ℕ
+holeBytes c p Whole = endsBytes c p 0 0 (pos 0) (pos 0)
+holeBytes c p (Part t b) = endsBytes c p 1 0 t b
 
 unfoldable pub settingsBytes : Settings → List ℕ
-settingsBytes s = holeBytes (countingByte (s .counting)) (s .hole)
+settingsBytes s = holeBytes (countingByte (s .counting)) (profileByte (s .profile)) (s .hole)
 
 -- the parts of each element, one after the other
 unfoldable pub cat : {X : Type 0} → (X → List ℕ) → List X → List ℕ

@@ -10,6 +10,8 @@ use Rattle.terms.specs.declared.Counting.{Counting}
 use Rattle.terms.specs.declared.Counting.the-variants.{Old, New}
 use Rattle.terms.specs.declared.Hole.{Hole}
 use Rattle.terms.specs.declared.Hole.the-variants.{Whole, Part}
+use Rattle.terms.specs.declared.Profile.{Profile}
+use Rattle.terms.specs.declared.Profile.the-variants.{Off, On}
 use Rattle.terms.specs.declared.Rule.{Rule}
 use Rattle.terms.specs.declared.Rule.the-variants.{Label, Both, Link, Via}
 use Rattle.terms.specs.declared.Atom.the-variants.{Has, Linked}
@@ -37,15 +39,20 @@ markOf k a b c t d = cond (eqb k 6) (record { atom = Has a b; top = t; bottom = 
 abbrev pub markRead : List ℕ → ℕ → Mark
 markRead b at = markOf (getD b at 0) (getD b (at + 1) 0) (getD b (at + 2) 0) (getD b (at + 3) 0) (signed32At b (at + 4)) (signed32At b (at + 8))
 
--- the settings, read; what no counting is stored as is read as the new one, and what no hole is stored as is read as one
+-- the settings, read; what no counting is stored as is read as the new one, what no hole is stored as as one, what no profile is stored as as one
+-- that is on
 abbrev pub countingFrom : ℕ → Counting
 countingFrom x = cond (eqb x 0) Old New
 
 abbrev pub holeFrom : ℕ → ℤ → ℤ → Hole
 holeFrom x t d = cond (eqb x 0) Whole (Part t d)
 
+abbrev pub profileFrom : ℕ → Profile
+profileFrom x = cond (eqb x 0) Off On
+
 abbrev pub settingsAt : List ℕ → Settings
 settingsAt b = record {
   counting = countingFrom (getD b SETTINGS-AT 0);
   hole = holeFrom (getD b (SETTINGS-AT + 2) 0) (signed32At b (SETTINGS-AT + 4)) (signed32At b (SETTINGS-AT + 8));
+  profile = profileFrom (getD b (SETTINGS-AT + 1) 0);
 }

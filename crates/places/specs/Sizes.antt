@@ -16,6 +16,7 @@ use Rattle.terms.specs.declared.Mark.{Mark}
 use Rattle.terms.specs.declared.Settings.{Settings}
 use Rattle.places.specs.Layout.{
   countingByte,
+  profileByte,
   holeBytes,
   settingsBytes,
   placeBytes,
@@ -35,13 +36,13 @@ ends-size : (k a b c : ℕ) (t d : ℤ) → length (endsBytes k a b c t d) ≡ M
 unfolding endsBytes bytes
 ends-size k a b c t d = refl
 
-hole-size : (c : ℕ) (H : Hole) → length (holeBytes c H) ≡ MARK-BYTES
-hole-size c Whole = ends-size _ _ _ _ _ _
-hole-size c (Part t d) = ends-size _ _ _ _ _ _
+hole-size : (c p : ℕ) (H : Hole) → length (holeBytes c p H) ≡ MARK-BYTES
+hole-size c p Whole = ends-size _ _ _ _ _ _
+hole-size c p (Part t d) = ends-size _ _ _ _ _ _
 
 pub settings-length : (σ : Settings) → length (settingsBytes σ) ≡ MARK-BYTES
 unfolding settingsBytes
-settings-length σ = hole-size (countingByte (σ .counting)) (σ .hole)
+settings-length σ = hole-size (countingByte (σ .counting)) (profileByte (σ .profile)) (σ .hole)
 
 pub settings-size : (σ : Settings) → length (settingsBytes σ) ≤ HEADER - SETTINGS-AT
 settings-size σ = omega (arith, settings-length σ)

@@ -4,13 +4,14 @@ ghost use mathlib.Core.List.{[], _∷_};
 ghost use Prim.Native.Nat.{_+_, _≤_};
 ghost use lib.ListN.{length};
 ghost use Rattle.codec.specs.Bytes.{put};
-ghost use Rattle.places.specs.Layout.{countingByte, settingsBytes, placeBytes, ruleBytes, endsBytes, markBytes, SETTINGS-AT, SIZE};
-ghost use Rattle.places.specs.Read.{countingFrom, holeFrom, settingsAt, ruleOf, ruleRead, markOf, markRead};
+ghost use Rattle.places.specs.Layout.{countingByte, profileByte, settingsBytes, placeBytes, ruleBytes, endsBytes, markBytes, SETTINGS-AT, SIZE};
+ghost use Rattle.places.specs.Read.{countingFrom, holeFrom, profileFrom, settingsAt, ruleOf, ruleRead, markOf, markRead};
 use terms::Atom;
 use terms::Counting;
 use terms::Hole;
 use terms::Mark;
 use terms::Operator;
+use terms::Profile;
 use terms::Rule;
 use terms::Settings;
 
@@ -153,16 +154,37 @@ fn hole_from(byte: u8, top: i32, bottom: i32) -> Hole
     Hole::Part(top, bottom)
 }
 
+fn profile_byte(profile: Profile) -> u8
+    ensures { λ r. ⌜ r ≡ profileByte profile ⌝ }
+{
+    match profile {
+        Profile::Off => 0,
+        Profile::On => 1,
+    }
+}
+
+// What no profile is stored as is read as one that is on; the comparison in `block::load` finds it.
+fn profile_from(byte: u8) -> Profile
+    ensures { λ r. ⌜ r ≡ profileFrom byte ⌝ }
+{
+    if byte == 0 {
+        return Profile::Off;
+    }
+    Profile::On
+}
+
 pub fn put_settings(b: &mut [u8], settings: Settings)
     requires { ⌜ SIZE ≤ length (now b) ⌝ }
     ensures { λ _. ⌜ now (b .exit) ≡ put (now (b .entry)) SETTINGS-AT (settingsBytes settings) ⌝ }
 {
     let counting = settings.counting;
     let hole = settings.hole;
+    let profile = settings.profile;
     let count = counting_byte(counting);
+    let print = profile_byte(profile);
     match hole {
-        Hole::Whole => put_ends(b, SETTINGS_AT, count, 0, 0, 0, 0, 0),
-        Hole::Part(top, bottom) => put_ends(b, SETTINGS_AT, count, 0, 1, 0, top, bottom),
+        Hole::Whole => put_ends(b, SETTINGS_AT, count, print, 0, 0, 0, 0),
+        Hole::Part(top, bottom) => put_ends(b, SETTINGS_AT, count, print, 1, 0, top, bottom),
     }
 }
 
@@ -175,5 +197,6 @@ pub fn settings_at(b: &[u8]) -> Settings
     Settings {
         counting: counting_from(b[SETTINGS_AT]),
         hole: hole_from(b[SETTINGS_AT + 2], top, bottom),
+        profile: profile_from(b[SETTINGS_AT + 1]),
     }
 }

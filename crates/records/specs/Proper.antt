@@ -91,6 +91,7 @@ Proper (Command.Put m) = isMark m
 Proper (Command.Take m) = isMark m
 Proper (Command.Count c) = true
 Proper (Command.Confine t b) = isHole (Part t b)
+Proper Command.Restrict = true
 Proper (Command.Ask q) = isQuestion q
 
 -- ---- the table, row by row
@@ -215,7 +216,7 @@ body-proper σ k b =
                                     mark-test (linkStretch b) (Command.Take (linkStretch b)) (λ t. t) σ,
                                     (
                                       one-test (isCounting (getD b 0 0)) 7 (Command.Count (countingAt b)) (λ t. tt),
-                                      (hole-test (holeTop b) (holeBottom b), tt),
+                                      (hole-test (holeTop b) (holeBottom b), (tt, tt)),
                                     ),
                                   ),
                                 ),
@@ -258,6 +259,7 @@ isChange (Command.Put m) = isMark m
 isChange (Command.Take m) = isMark m
 isChange (Command.Count c) = true
 isChange (Command.Confine t b) = isHole (Part t b)
+isChange Command.Restrict = true
 isChange (Command.Ask q) = false
 
 -- 01, Records: an operator's code and n
@@ -294,6 +296,7 @@ changeKind (Command.Put m) = putKind (m .atom)
 changeKind (Command.Take m) = takeKind (m .atom)
 changeKind (Command.Count c) = 17
 changeKind (Command.Confine t b) = 18
+changeKind Command.Restrict = 21
 changeKind (Command.Ask q) = 0
 
 abbrev pub changeBody : Command → List ℕ
@@ -303,6 +306,7 @@ changeBody (Command.Put m) = markBody (m .atom) (m .top) (m .bottom)
 changeBody (Command.Take m) = markBody (m .atom) (m .top) (m .bottom)
 changeBody (Command.Count c) = countingNumber c ∷ []
 changeBody (Command.Confine t b) = bytesOfSigned32 t ++ bytesOfSigned32 b
+changeBody Command.Restrict = []
 changeBody (Command.Ask q) = []
 
 -- a change as a record
@@ -412,6 +416,7 @@ module _ (σ : Settings) where
   change-decodes (Command.Take m) t = take-decodes (m .atom) (m .top) (m .bottom) t
   change-decodes (Command.Count c) t = count-decodes c
   change-decodes (Command.Confine t b) h = hole-decodes t b h
+  change-decodes Command.Restrict t = refl
   change-decodes (Command.Ask q) t = absurd t
 
 -- a body that has a length of its kind, below the largest
@@ -449,6 +454,7 @@ fitting (Command.Put m) t = fitting-put (m .atom) (m .top) (m .bottom)
 fitting (Command.Take m) t = fitting-take (m .atom) (m .top) (m .bottom)
 fitting (Command.Count c) t = record { allowed = tt; small = omega arith; short = omega arith }
 fitting (Command.Confine t b) h = fitting-hole t b
+fitting Command.Restrict t = record { allowed = tt; small = omega arith; short = omega arith }
 fitting (Command.Ask q) t = absurd t
 
 -- a change in range, written, reads back, and all of its bytes are used

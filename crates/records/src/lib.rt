@@ -43,6 +43,7 @@ pub enum Command {
     Take(Mark),
     Count(Counting),
     Confine(i32, i32),
+    Restrict,
     Ask(Question),
 }
 
@@ -256,6 +257,7 @@ pub fn decode_body(settings: Settings, kind: u16, body: &[u8]) -> Decoded
         16 => take(settings, link_stretch(body)),
         17 => count(body),
         18 => confine(body),
+        21 => Decoded::Command(Command::Restrict),
         _ => Decoded::Refused(4),
     }
 }

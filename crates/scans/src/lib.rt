@@ -4,6 +4,7 @@ ghost use Prim.Native.Nat.{_*_, _≤_};
 ghost use lib.Dec.{T};
 ghost use lib.ListN.{take};
 ghost use Rattle.terms.specs.Holes.{liesIn};
+ghost use Rattle.terms.specs.Profiles.{admits};
 ghost use Rattle.terms.specs.Held.{isRule, isMark, endsOf};
 ghost use Rattle.terms.specs.Places.{rulesIn, Marks-named};
 ghost use Rattle.terms.specs.Same.{sameRule, sameMark};
@@ -13,6 +14,7 @@ ghost use Rattle.scans.specs.Keys.{packedFields, ruleKey, markKey, depth
 use terms::Atom;
 use terms::Hole;
 use terms::Mark;
+use terms::Profile;
 use terms::Rule;
 use terms::RulePlace;
 
@@ -186,6 +188,20 @@ pub fn marks_in_range(marks: [Mark; 256], count: usize) -> bool
     for i in 0..count {
         let mark = marks[i];
         all = all & mark.in_range();
+    }
+    all
+}
+
+// Each may be held under the profile.
+pub fn rules_admitted(places: [RulePlace; 128], count: usize, profile: Profile) -> bool
+    requires { ⌜ count ≤ 128 ⌝ }
+    ensures { λ r. ⌜ r ≡ every (admits profile) (rulesIn places count) ⌝ }
+{
+    let mut all = true;
+    for i in 0..count {
+        let found = places[i];
+        let rule = found.rule;
+        all = all & profile::admits(profile, rule);
     }
     all
 }

@@ -12,6 +12,7 @@ use Rattle.terms.specs.declared.Mark.{Mark}
 use Rattle.terms.specs.Tests.{of-true}
 use Rattle.terms.specs.Limits.{RULES, MARKS, DEPTHS}
 use Rattle.terms.specs.Holes.{liesIn}
+use Rattle.terms.specs.Profiles.{admits}
 use Rattle.terms.specs.Held.{endsOf, isRule, isMark, isSettings}
 use Rattle.terms.specs.Places.{rulesIn}
 use Rattle.terms.specs.Same.{sameRule, sameMark}
@@ -50,9 +51,9 @@ module _ (s : State) (p : Counts-in s) where
   abbrev few : Bool
   few = leb (depthCount (endsOf marks)) DEPTHS
 
-  -- the settings, and the marks under them
+  -- the settings, and the marks and rules under them
   abbrev settled : Bool
-  settled = isSettings (s .settings) && every (liesIn (s .settings .hole)) marks
+  settled = isSettings (s .settings) && (every (liesIn (s .settings .hole)) marks && every (admits (s .settings .profile)) rules)
 
   kept : limits (heldOf s) ≡ (few && (every isRule rules && (every isMark marks && (once sameRule rules && (once sameMark marks && settled)))))
   unfolding limits

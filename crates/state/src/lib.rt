@@ -6,18 +6,21 @@ ghost use lib.Dec.{T};
 ghost use lib.ListN.{take, drop};
 ghost use Rattle.terms.specs.Limits.{RULES, MARKS};
 ghost use Rattle.terms.specs.declared.Hole.the-variants as Bored;
-ghost use Rattle.terms.specs.Held.{withSettings, withCounting, withHole, isMark};
+ghost use Rattle.terms.specs.declared.Profile.the-variants as Switched;
+ghost use Rattle.terms.specs.Held.{withSettings, withCounting, withHole, withProfile, isMark};
 ghost use Rattle.terms.specs.Places.{Marks-named};
 ghost use Rattle.terms.specs.Lists.{limits};
 ghost use Rattle.refusals.specs.Refusals.{tested as testedBy};
 ghost use Rattle.state.specs.State.{Counts-in, heldOf, emptyState, Change-as};
-ghost use Rattle.state.specs.Changes.{ruleTests, roomTests, putTests, takeTests, countTests, confineTests, addRule, putMark, takeMark};
+ghost use Rattle.state.specs.Changes.{listTests, ruleTests, roomTests, putTests, takeTests, countTests, confineTests, restrictTests};
+ghost use Rattle.state.specs.Changes.{addRule, putMark, takeMark};
 ghost use Rattle.state.specs.Holding.{Holds};
 use terms::Counting;
 use terms::DEPTHS;
 use terms::Hole;
 use terms::MARKS;
 use terms::Mark;
+use terms::Profile;
 use terms::RULES;
 use terms::Rule;
 use terms::RulePlace;
@@ -70,10 +73,10 @@ impl State {
         }
     }
 
-    // The tests of a rule to add.
-    fn rule_tested(self, rule: Rule) -> Tested
+    // The tests of a rule to add, among the held ones.
+    fn list_tested(self, rule: Rule) -> Tested
         requires { ⌜ Counts-in self ⌝ }
-        ensures { λ r. ⌜ r ≡ testedBy (ruleTests (heldOf self) rule) ⌝ }
+        ensures { λ r. ⌜ r ≡ testedBy (listTests (heldOf self) rule) ⌝ }
     {
         let rules = self.rules;
         let count = self.rule_count;
@@ -84,6 +87,17 @@ impl State {
             return Tested::Refused(11);
         }
         Tested::Passed
+    }
+
+    // Before them, that the profile admits it.
+    fn rule_tested(self, rule: Rule) -> Tested
+        requires { ⌜ Counts-in self ⌝ }
+        ensures { λ r. ⌜ r ≡ testedBy (ruleTests (heldOf self) rule) ⌝ }
+    {
+        let settings = self.settings;
+        let profile = settings.profile;
+        let admitted = Tested::unless(profile::admits(profile, rule), 20);
+        admitted.or(self.list_tested(rule))
     }
 
     fn add_rule(self, rule: Rule) -> State
@@ -236,7 +250,12 @@ impl State {
         }
         let held = self.settings;
         let hole = held.hole;
-        let settings = Settings { counting, hole };
+        let profile = held.profile;
+        let settings = Settings {
+            counting,
+            hole,
+            profile,
+        };
         Change {
             tested: Tested::Passed,
             state: self.with_settings(settings),
@@ -257,10 +276,12 @@ impl State {
         }
         let before = self.settings;
         let counting = before.counting;
+        let profile = before.profile;
         let bored = Hole::Part(top, bottom);
         let settings = Settings {
             counting,
             hole: bored,
+            profile,
         };
         Change {
             tested: Tested::Passed,
@@ -268,8 +289,36 @@ impl State {
         }
     }
 
-    // What the lists and settings keep: each rule and mark in range, few enough depths, none twice, settings that there are, and no mark
-    // outside the hole. The ranges come first: the keys tell apart marks that are in range.
+    // The profile switched on, where each held rule is in it.
+    pub fn restrict(self) -> Change
+        requires { ⌜ Counts-in self ⌝ }
+        ensures { λ r. ⌜ Change-as (restrictTests (heldOf self)) (heldOf self) (withProfile (heldOf self) Switched.On) r ⌝ }
+    {
+        let rules = self.rules;
+        let count = self.rule_count;
+        let on = Profile::On;
+        if !scans::rules_admitted(rules, count, on) {
+            return Change {
+                tested: Tested::Refused(20),
+                state: self,
+            };
+        }
+        let current = self.settings;
+        let counting = current.counting;
+        let hole = current.hole;
+        let settings = Settings {
+            counting,
+            hole,
+            profile: on,
+        };
+        Change {
+            tested: Tested::Passed,
+            state: self.with_settings(settings),
+        }
+    }
+
+    // What the lists and settings keep: each rule and mark in range, few enough depths, none twice, settings that there are, no mark outside
+    // the hole, and no rule that the profile does not admit. The ranges come first: the keys tell apart marks that are in range.
     pub fn within_limits(self) -> bool
         requires { ⌜ Counts-in self ⌝ }
         ensures { λ r. ⌜ r ≡ limits (heldOf self) ⌝ }
@@ -288,6 +337,8 @@ impl State {
         let once = scans::rules_once(rules, rule_count) & scans::marks_once(marks, mark_count);
         let hole = settings.hole;
         let inside = scans::marks_inside(marks, mark_count, hole);
-        few & (once & (settings.in_range() & inside))
+        let profile = settings.profile;
+        let admitted = scans::rules_admitted(rules, rule_count, profile);
+        few & (once & (settings.in_range() & (inside & admitted)))
     }
 }

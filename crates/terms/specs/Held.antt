@@ -16,6 +16,8 @@ use Rattle.terms.specs.declared.Counting.{Counting}
 use Rattle.terms.specs.declared.Counting.the-variants.{Old}
 use Rattle.terms.specs.declared.Hole.{Hole}
 use Rattle.terms.specs.declared.Hole.the-variants.{Whole}
+use Rattle.terms.specs.declared.Profile.{Profile}
+use Rattle.terms.specs.declared.Profile.the-variants.{Off}
 use Rattle.terms.specs.declared.Settings.{Settings}
 use Rattle.terms.specs.Limits.{isItem, isKind, isLeft, isConcluded, isMarked, isLabel, isDepth}
 use Rattle.terms.specs.Operators.{isOperator}
@@ -25,11 +27,11 @@ infix 50 _∈_
 abbrev pub _∈_ : {X : Type 0} → X → List X → Type 0
 x ∈ xs = List·Memᴰ x xs
 
--- 01, The book: what RESET sets beside the lists; 02, Slips 4 and 5: it goes back to the old counting, and there is no hole
+-- 01, The book: what RESET sets beside the lists; 02, Slips 4, 5 and 10: it goes back to the old counting, there is no hole, and the profile is off
 abbrev pub freshSettings : Settings
-freshSettings = record { counting = Old; hole = Whole }
+freshSettings = record { counting = Old; hole = Whole; profile = Off }
 
--- and what may be set: either counting, and no hole or one within the range of marks, its top not deeper than its bottom
+-- and what may be set: either counting, no hole or one within the range of marks, its top not deeper than its bottom, and the profile off or on
 abbrev pub isSettings : Settings → Bool
 isSettings s = isHole (s .hole)
 
@@ -54,14 +56,21 @@ abbrev pub countingIn : Held → Counting
 countingIn h = h .settings .counting
 
 abbrev pub withCounting : Held → Counting → Held
-withCounting h c = withSettings h (record { counting = c; hole = h .settings .hole })
+withCounting h c = withSettings h (record { counting = c; hole = h .settings .hole; profile = h .settings .profile })
 
 -- 02, Slip 5: the hole in force, and another set
 abbrev pub holeIn : Held → Hole
 holeIn h = h .settings .hole
 
 abbrev pub withHole : Held → Hole → Held
-withHole h H = withSettings h (record { counting = h .settings .counting; hole = H })
+withHole h H = withSettings h (record { counting = h .settings .counting; hole = H; profile = h .settings .profile })
+
+-- 02, Slip 10: whether the profile is on, and switched
+abbrev pub profileIn : Held → Profile
+profileIn h = h .settings .profile
+
+abbrev pub withProfile : Held → Profile → Held
+withProfile h p = withSettings h (record { counting = h .settings .counting; hole = h .settings .hole; profile = p })
 
 -- 01, The book: both lists empty at first, and nothing set
 abbrev pub emptyHeld : Held

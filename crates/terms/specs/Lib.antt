@@ -11,6 +11,7 @@ pub mod Pairs
 pub mod Same
 pub mod SameLaws
 pub mod Holes
+pub mod Profiles
 pub mod Held
 pub mod Names
 pub mod Places

@@ -13,7 +13,8 @@ use Rattle.terms.specs.declared.Mark.{Mark}
 use Rattle.terms.specs.Tests.{and-both, both-and, or-one, or-left, or-right}
 use Rattle.terms.specs.Limits.{RULES, MARKS, DEPTHS}
 use Rattle.terms.specs.Holes.{isHole, liesIn}
-use Rattle.terms.specs.Held.{_∈_, Held, holeIn, endsOf, isRule, isMark, isSettings}
+use Rattle.terms.specs.Profiles.{admits}
+use Rattle.terms.specs.Held.{_∈_, Held, holeIn, profileIn, endsOf, isRule, isMark, isSettings}
 use Rattle.terms.specs.Same.{sameRule, sameMark}
 use Rattle.terms.specs.Lists.{some, every, strike, once, depthCount, limits}
 
@@ -123,6 +124,7 @@ pub record Limited (h : Held) : Type 0 where
   pub once-marks : T (once sameMark (h .marks))
   pub settings : T (isSettings (h .settings))
   pub inside : T (every (liesIn (holeIn h)) (h .marks))
+  pub admitted : T (every (admits (profileIn h)) (h .rules))
 
 pub limited : (h : Held) → T (limits h) → Limited h
 unfolding limits
@@ -134,7 +136,8 @@ limited h t =
     let e = and-both (every isMark (h .marks)) _ (d .1) in
     let f = and-both (once sameRule (h .rules)) _ (e .1) in
     let g = and-both (once sameMark (h .marks)) _ (f .1) in
-    let i = and-both (isSettings (h .settings)) (every (liesIn (holeIn h)) (h .marks)) (g .1) in
+    let i = and-both (isSettings (h .settings)) _ (g .1) in
+    let j = and-both (every (liesIn (holeIn h)) (h .marks)) (every (admits (profileIn h)) (h .rules)) (i .1) in
     record {
       few-rules = leb→le (length (h .rules)) RULES (a .0);
       few-marks = leb→le (length (h .marks)) MARKS (b .0);
@@ -144,7 +147,8 @@ limited h t =
       once-rules = f .0;
       once-marks = g .0;
       settings = i .0;
-      inside = i .1;
+      inside = j .0;
+      admitted = j .1;
     }
 
 pub of-limited : (h : Held) → Limited h → T (limits h)
@@ -157,7 +161,8 @@ of-limited h w =
     (both-and (every isMark (h .marks)) _ (w .marks)
     (both-and (once sameRule (h .rules)) _ (w .once-rules)
     (both-and (once sameMark (h .marks)) _ (w .once-marks)
-    (both-and (isSettings (h .settings)) (every (liesIn (holeIn h)) (h .marks)) (w .settings) (w .inside))))))))
+    (both-and (isSettings (h .settings)) _ (w .settings)
+    (both-and (every (liesIn (holeIn h)) (h .marks)) (every (admits (profileIn h)) (h .rules)) (w .inside) (w .admitted)))))))))
 
 pub in-range : (h : Held) → Limited h → InRange h
 in-range h w = record {

@@ -7,7 +7,8 @@ use lib.IntN.{ℤ}
 use lib.ListN.{length}
 use Rattle.terms.specs.Limits.{RULES, MARKS, DEPTHS}
 use Rattle.terms.specs.Holes.{liesIn}
-use Rattle.terms.specs.Held.{Held, holeIn, endsOf, isRule, isMark, isSettings}
+use Rattle.terms.specs.Profiles.{admits}
+use Rattle.terms.specs.Held.{Held, holeIn, profileIn, endsOf, isRule, isMark, isSettings}
 use Rattle.terms.specs.Same.{sameRule, sameMark, sameDepth}
 
 -- some element passes
@@ -35,9 +36,10 @@ unfoldable pub depthCount : List ℤ → ℕ
 depthCount [] = 0
 depthCount (d ∷ ds) = cond (some (sameDepth d) ds) 0 1 + depthCount ds
 
--- 01, Names and depths and Records: what the held lists and settings keep; 02, Slip 5: the marks lie in the hole
+-- 01, Names and depths and Records: what the held lists and settings keep; 02, Slip 5: the marks lie in the hole; Slip 10: the
+-- rules are in the profile where it is on
 unfoldable pub limits : Held → Bool
 limits h =
     leb (length (h .rules)) RULES && (leb (length (h .marks)) MARKS && (leb (depthCount (endsOf (h .marks))) DEPTHS
     && (every isRule (h .rules) && (every isMark (h .marks) && (once sameRule (h .rules) && (once sameMark (h .marks)
-    && (isSettings (h .settings) && every (liesIn (holeIn h)) (h .marks))))))))
+    && (isSettings (h .settings) && (every (liesIn (holeIn h)) (h .marks) && every (admits (profileIn h)) (h .rules)))))))))

@@ -1,4 +1,4 @@
-// The vocabulary: operators, countings, rules, marks, questions, the hole, settings, answers and the paper's limits.
+// The vocabulary: operators, countings, rules, marks, questions, the hole, the profile, settings, answers and the paper's limits.
 ghost use mathlib.Core.Path.{_≡_};
 ghost use mathlib.Core.Bool.{cond};
 ghost use lib.Dec.{T, eqb};
@@ -559,10 +559,17 @@ impl Mark {
     }
 }
 
+// Whether rules are held to the print profile. Which rules are in it is said in the crate `profile`.
+pub enum Profile {
+    Off,
+    On,
+}
+
 // What records set until RESET beside the lists.
 pub struct Settings {
     pub counting: Counting,
     pub hole: Hole,
+    pub profile: Profile,
 }
 
 impl Settings {
@@ -570,6 +577,7 @@ impl Settings {
     pub const FRESH: Settings = Settings {
         counting: Counting::Old,
         hole: Hole::Whole,
+        profile: Profile::Off,
     };
 
     pub fn in_range(self) -> bool

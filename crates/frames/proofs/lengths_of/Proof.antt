@@ -78,9 +78,14 @@ returns-18 c = simp (c .match .keys18)
 
 returns-19 : tie.Need-returns-19
 unfolding lengthsOf
-returns-19 c =
+returns-19 c = simp (c .match .keys19)
+
+returns-20 : tie.Need-returns-20
+unfolding lengthsOf
+returns-20 c =
     let m = c .match .rest in
     simp (
+      ne-eqb _ _ (m .0 .0 .0 .0 .0 .0 .0 .0 .0 .0 .0 .0 .0 .0 .0 .0 .0 .0 .1),
       ne-eqb _ _ (m .0 .0 .0 .0 .0 .0 .0 .0 .0 .0 .0 .0 .0 .0 .0 .0 .0 .1),
       ne-eqb _ _ (m .0 .0 .0 .0 .0 .0 .0 .0 .0 .0 .0 .0 .0 .0 .0 .0 .1),
       ne-eqb _ _ (m .0 .0 .0 .0 .0 .0 .0 .0 .0 .0 .0 .0 .0 .0 .0 .1),
@@ -123,4 +128,5 @@ lengths-of-spec =
     returns-16
     returns-17
     returns-18
-    returns-19)
+    returns-19
+    returns-20)

@@ -1,4 +1,4 @@
--- Each arm lays the bytes of its variant behind the counting's. Assumes nothing.
+-- Each arm lays the bytes of its variant behind the counting's and the profile's. Assumes nothing.
 use mathlib.Core.Path.{sym, ap, _∙_}
 use lib.IntN.{pos}
 use mir.Syntax.{w32}
@@ -6,13 +6,16 @@ use mir.Val.{SFits}
 use mir.ValLaws.{toZ-ofZ}
 use Rattle.codec.specs.Bytes.{put}
 use Rattle.terms.specs.declared.Hole.{Hole}
-use Rattle.places.specs.Layout.{countingByte, endsBytes, holeBytes, settingsBytes, SETTINGS-AT}
+use Rattle.places.specs.Layout.{countingByte, profileByte, endsBytes, holeBytes, settingsBytes, SETTINGS-AT}
 use borrow.Author.Needs.{needs}
 use Rattle.places.proofs.put_settings.Statement.{statement}
 use Rattle.places.proofs.put_settings.Tie as tie
 
 counting-byte-requires : tie.Need-counting-byte-requires
 counting-byte-requires c κs = search needs
+
+profile-byte-requires : tie.Need-profile-byte-requires
+profile-byte-requires c κs = search needs
 
 enum-told : tie.Need-enum-told
 enum-told c = search needs
@@ -34,11 +37,13 @@ unfolding settingsBytes
 returns c =
     let laid = c .before .before in
     let told = laid .before .before in
-    let counted = told .before .before in
+    let printed = told .before .before in
+    let counted = printed .before in
     let a = counted .before .before .args in
+    let σ = a .settings in
     laid .put-ends .ensures
-    ∙ ap (λ x. put (a .b .now) SETTINGS-AT (endsBytes x 0 0 0 (pos 0) (pos 0))) (counted .counting-byte .ensures)
-    ∙ ap (λ (H : Hole). put (a .b .now) SETTINGS-AT (holeBytes (countingByte (a .settings .counting)) H)) (sym (told .enum-told .given .1))
+    ∙ (λ i. put (a .b .now) SETTINGS-AT (endsBytes (counted .counting-byte .ensures i) (printed .profile-byte .ensures i) 0 0 (pos 0) (pos 0)))
+    ∙ ap (λ (H : Hole). put (a .b .now) SETTINGS-AT (holeBytes (countingByte (σ .counting)) (profileByte (σ .profile)) H)) (sym (told .enum-told .given .1))
 
 same-length-2 : tie.Need-same-length-2
 same-length-2 c = search needs
@@ -48,21 +53,24 @@ unfolding settingsBytes
 returns-2 c =
     let laid = c .before .before in
     let told = laid .before .before .before in
-    let counted = told .before .before in
+    let printed = told .before .before in
+    let counted = printed .before in
     let a = counted .before .before .args in
+    let σ = a .settings in
     let given = told .hole .given in
     let f : SFits w32 (given .0 .0) = search needs in
     let g : SFits w32 (given .0 .1 .0) = search needs in
     laid .put-ends2 .ensures
     ∙ (λ i. put (a .b .now) SETTINGS-AT
-    (endsBytes (counted .counting-byte .ensures i) 0 1 0 (toZ-ofZ w32 (given .0 .0) f i) (toZ-ofZ w32 (given .0 .1 .0) g i)))
-    ∙ ap (λ (H : Hole). put (a .b .now) SETTINGS-AT (holeBytes (countingByte (a .settings .counting)) H)) (sym (given .1))
+    (endsBytes (counted .counting-byte .ensures i) (printed .profile-byte .ensures i) 1 0 (toZ-ofZ w32 (given .0 .0) f i) (toZ-ofZ w32 (given .0 .1 .0) g i)))
+    ∙ ap (λ (H : Hole). put (a .b .now) SETTINGS-AT (holeBytes (countingByte (σ .counting)) (profileByte (σ .profile)) H)) (sym (given .1))
 
 pub put-settings-spec : {M : Type 1} → statement M
 put-settings-spec =
     tie.close
     (tie.spec
     counting-byte-requires
+    profile-byte-requires
     enum-told
     put-ends-requires
     enum-known-hole

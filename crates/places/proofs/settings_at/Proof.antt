@@ -1,4 +1,4 @@
--- The counting from its byte, the hole from its byte and the ends that `i32_at` reads.
+-- The counting and the profile from their bytes, the hole from its byte and the ends that `i32_at` reads.
 use mathlib.Core.Path.{_∙_}
 use Prim.Native.Nat.{_+_}
 use lib.ListN.{getD}
@@ -38,19 +38,32 @@ shared-slice-read-hole-from c = search needs
 hole-from-requires : tie.Need-hole-from-requires
 hole-from-requires c κs = search needs
 
+add-profile-from : tie.Need-add-profile-from
+add-profile-from c = search needs
+
+shared-slice-read-profile-from : tie.Need-shared-slice-read-profile-from
+shared-slice-read-profile-from c = search needs
+
+profile-from-requires : tie.Need-profile-from-requires
+profile-from-requires c κs = search needs
+
 returns : tie.Need-returns
 returns c =
-    let counted = c .before .before in
+    let bored = c .before .before in
+    let counted = bored .before .before in
     let bottom = counted .before .before in
     let b = bottom .before .before .before .args .b .now in
     let t = bottom .before .i32-at in
     let d = bottom .i32-at2 in
     let e = toZ-ofZ w32 (t .result) (record { sfits = t .ok }) ∙ t .ensures in
     let f = toZ-ofZ w32 (d .result) (record { sfits = d .ok }) ∙ d .ensures in
-    let g = c .hole-from .ensures ∙ (λ i. holeFrom (getD b (SETTINGS-AT + 2) 0) (e i) (f i)) in
+    let g = bored .hole-from .ensures ∙ (λ i. holeFrom (getD b (SETTINGS-AT + 2) 0) (e i) (f i)) in
     let k = counted .counting-from .ensures in
-    let w : Path Settings (record { counting = counted .counting-from .result; hole = c .hole-from .result }) (settingsAt b) =
-    λ i. record { counting = k i; hole = g i } in
+    let p = c .profile-from .ensures in
+    let w : Path Settings
+    (record { counting = counted .counting-from .result; hole = bored .hole-from .result; profile = c .profile-from .result })
+    (settingsAt b) =
+    λ i. record { counting = k i; hole = g i; profile = p i } in
     w
 
 pub settings-at-spec : {M : Type 1} → statement M
@@ -66,4 +79,7 @@ settings-at-spec =
     add-hole-from
     shared-slice-read-hole-from
     hole-from-requires
+    add-profile-from
+    shared-slice-read-profile-from
+    profile-from-requires
     returns)

@@ -225,10 +225,15 @@ unfolding bodyTests commandIn
 returns-18 c = simp (c .before .match .keys18) (c .confine .ensures)
 
 returns-19 : tie.Need-returns-19
+unfolding bodyTests commandIn
+returns-19 c = simp (c .match .keys19)
+
+returns-20 : tie.Need-returns-20
 unfolding lengthsOf
-returns-19 c =
+returns-20 c =
     let m = c .match .rest in
     absurd (simp (
+      ne-eqb _ _ (m .0 .0 .0 .0 .0 .0 .0 .0 .0 .0 .0 .0 .0 .0 .0 .0 .0 .0 .1),
       ne-eqb _ _ (m .0 .0 .0 .0 .0 .0 .0 .0 .0 .0 .0 .0 .0 .0 .0 .0 .0 .1),
       ne-eqb _ _ (m .0 .0 .0 .0 .0 .0 .0 .0 .0 .0 .0 .0 .0 .0 .0 .0 .1),
       ne-eqb _ _ (m .0 .0 .0 .0 .0 .0 .0 .0 .0 .0 .0 .0 .0 .0 .0 .1),
@@ -296,4 +301,5 @@ decode-body-spec =
     returns-16
     returns-17
     returns-18
-    returns-19)
+    returns-19
+    returns-20)

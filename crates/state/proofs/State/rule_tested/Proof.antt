@@ -1,31 +1,32 @@
--- By the two tests.
-use mathlib.Core.Path.{sym, _∙_}
-use native.Mathlib.Omega.{arith}
-use borrow.Author.Tests.{le-leb, lt-leb}
-use Rattle.scans.proofs.Keyed.{rules-length}
+-- Whether the profile admits the rule, then the tests among the held ones.
+use Rattle.terms.specs.Profiles.{admits}
+use Rattle.state.specs.State.{heldOf}
+use Rattle.state.specs.Changes.{listTests}
+use Rattle.state.proofs.Outcome.{test-then}
 use borrow.Author.Needs.{needs}
 use Rattle.state.proofs.State.rule_tested.Statement.{statement}
 use Rattle.state.proofs.State.rule_tested.Tie as tie
 
-has-rule-requires : tie.Need-has-rule-requires
-has-rule-requires c κs = search needs
+admits-requires : tie.Need-admits-requires
+admits-requires c κs = search needs
+
+unless-requires : tie.Need-unless-requires
+unless-requires c κs = search needs
+
+list-tested-requires : tie.Need-list-tested-requires
+list-tested-requires c κs = search needs
+
+or-requires : tie.Need-or-requires
+or-requires c κs = search needs
 
 returns : tie.Need-returns
-returns c = sym (rw (sym (c .before .has-rule .ensures) ∙ c .if1 .taken))
-
-returns-2 : tie.Need-returns-2
-returns-2 c =
-    let s = c .before .before .before .before .args .self in
-    let p = c .before .before .before .before .pre in
-    let n = rules-length (s .rules) (s .«rule_count») (omega arith) in
-    sym (rw (sym (c .before .before .has-rule .ensures) ∙ c .before .if1 .left, n, le-leb 128 (s .«rule_count») (c .if2 .taken)))
-
-returns-3 : tie.Need-returns-3
-returns-3 c =
-    let s = c .before .before .before .before .args .self in
-    let p = c .before .before .before .before .pre in
-    let n = rules-length (s .rules) (s .«rule_count») (omega arith) in
-    sym (rw (sym (c .before .before .has-rule .ensures) ∙ c .before .if1 .left, n, lt-leb 128 (s .«rule_count») (c .if2 .left)))
+returns c =
+    let listed = c .before in
+    let passed = listed .before in
+    let start = passed .before .before .before in
+    let s = start .args .self in
+    rw (c .or .ensures, listed .list-tested .ensures, passed .unless .ensures, passed .before .admits .ensures)
+    (test-then (admits (s .settings .profile) (start .args .rule)) 20 (listTests (heldOf s) (start .args .rule)))
 
 pub rule-tested-spec : {M : Type 1} → statement M
-rule-tested-spec = tie.close (tie.spec has-rule-requires returns returns-2 returns-3)
+rule-tested-spec = tie.close (tie.spec admits-requires unless-requires list-tested-requires or-requires returns)

@@ -34,12 +34,15 @@ marks-once-requires c κs =
 marks-inside-requires : tie.Need-marks-inside-requires
 marks-inside-requires c κs = search needs
 
+rules-admitted-requires : tie.Need-rules-admitted-requires
+rules-admitted-requires c κs = search needs
+
 in-range-requires : tie.Need-in-range-requires
 in-range-requires c κs = search needs
 
 returns-2 : tie.Need-returns-2
 returns-2 c =
-    let once = c .before .before in
+    let once = c .before .before .before in
     let counted = once .before .before in
     let ranged = counted .before in
     let judged = ranged .before in
@@ -48,7 +51,8 @@ returns-2 c =
       counted .depth-count .ensures,
       once .before .rules-once .ensures,
       once .marks-once .ensures,
-      c .before .marks-inside .ensures,
+      c .before .before .marks-inside .ensures,
+      c .before .rules-admitted .ensures,
       c .in-range .ensures,
     )
     (in-range (start .args .self) (start .pre) _ _ (judged .before .rules-in-range .ensures) (judged .marks-in-range .ensures) (ranged .if1 .left))
@@ -64,5 +68,6 @@ within-limits-spec =
     rules-once-requires
     marks-once-requires
     marks-inside-requires
+    rules-admitted-requires
     in-range-requires
     returns-2)
