@@ -1,7 +1,7 @@
 //! Writes stored test inputs of the program and what it has to print.
 //! `corpus wells FOLDER`: a hundred wells with points, fifty with points and stretches behind them,
-//! thirty whose rule lists name a counting, thirty that are holes with two ends, and thirty pads of
-//! several wells;
+//! thirty whose rule lists name a counting, thirty that are holes with two ends, thirty pads of
+//! several wells, and thirty whose sections are printed;
 //! `corpus limits FOLDER`: inputs at the size limit.
 
 mod limits;
@@ -12,7 +12,7 @@ use model::listing::{listing, MAX_INPUT};
 use std::path::Path;
 use well::{Size, Well};
 
-const WELLS: u64 = 240;
+const WELLS: u64 = 270;
 /// From this well on a caliper gives stretches.
 const CALIPER: u64 = 100;
 /// From this well on rule lists name a counting, and there are two sections at least.
@@ -21,6 +21,19 @@ const COUNTINGS: u64 = 150;
 const HOLES: u64 = 180;
 /// From this well on several wells share a section, and every second pad is drilled without a hole.
 const PADS: u64 = 210;
+/// From this well on most sections switch the print profile on, and every third well is drilled in
+/// a hole.
+const PROFILES: u64 = 240;
+
+/// Whether sections are drilled in a hole with two ends.
+fn holes(number: u64) -> bool {
+    match number {
+        ..HOLES => false,
+        HOLES..PADS => true,
+        PADS..PROFILES => number.is_multiple_of(2),
+        _ => number.is_multiple_of(3),
+    }
+}
 
 /// From a few marks to full lists.
 fn size(number: u64) -> Size {
@@ -44,12 +57,13 @@ fn size(number: u64) -> Size {
             false => dice.pick(&[20, 50, 80]),
         },
         countings,
-        holes: number >= HOLES && (number < PADS || number.is_multiple_of(2)),
+        holes: holes(number),
         wells: 0,
+        profiles: number >= PROFILES,
     };
-    match number < PADS {
-        true => with_limits(large, size),
-        false => with_limits(large, pad(&mut dice, size)),
+    match (PADS..PROFILES).contains(&number) {
+        false => with_limits(large, size),
+        true => with_limits(large, pad(&mut dice, size)),
     }
 }
 

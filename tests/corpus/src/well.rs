@@ -3,6 +3,10 @@
 //! name a counting, it is set before them; among the marks it is too late. Where the hole has two
 //! ends, they are given before the marks, which may go on past its bottom. On a pad the items are
 //! shared out to several wells, and links between two of them are a mistake that is taken back.
+//! Where sections are printed, the profile is switched on before the rules or behind them, and
+//! questions are asked at the outermost marked depths.
+
+mod printed;
 
 use dice::Dice;
 use model::frame::{bytes, framed, wide_bytes};
@@ -58,6 +62,8 @@ pub struct Size {
     pub holes: bool,
     /// How many wells a pad has; nothing of it is drawn where this is 0.
     pub wells: u8,
+    /// Whether sections are printed; nothing of it is drawn where they aren't.
+    pub profiles: bool,
 }
 
 pub struct Well {
@@ -121,6 +127,10 @@ impl Well {
         self.stream.extend(bytes(&record));
     }
 
+    fn send_all(&mut self, records: Vec<Record>) {
+        records.into_iter().for_each(|record| self.send(record));
+    }
+
     /// Puts or takes a mark; with a caliper also a point by the new kinds now and then.
     fn send_mark(&mut self, record: Record) {
         match self.caliper() && self.dice.percent(30) {
@@ -135,18 +145,14 @@ impl Well {
             self.send(Record::Reset);
             self.marks.clear();
         }
-        // Behind the counting there may be marks already, and then it is too late for a hole.
-        let late = self.size.holes && self.dice.percent(20);
-        if self.size.holes && !late {
-            self.give_holes();
+        self.settings();
+        match self.size.profiles {
+            true => self.printed_rules(),
+            false => {
+                let rules = self.rules();
+                self.send_all(rules);
+            }
         }
-        if self.size.countings {
-            self.set_counting();
-        }
-        if late {
-            self.give_holes();
-        }
-        self.rules();
         if self.size.countings {
             (0..3).for_each(|_| self.see_again());
         }
@@ -159,6 +165,21 @@ impl Well {
             self.flood();
         }
         self.report();
+    }
+
+    /// The hole and the counting, where they are given.
+    fn settings(&mut self) {
+        // Behind the counting there may be marks already, and then it is too late for a hole.
+        let late = self.size.holes && self.dice.percent(20);
+        if self.size.holes && !late {
+            self.give_holes();
+        }
+        if self.size.countings {
+            self.set_counting();
+        }
+        if late {
+            self.give_holes();
+        }
     }
 
     /// Water and gas at the bit in the same place of a well.
@@ -218,14 +239,14 @@ impl Well {
         self.send(query(fact, first + 1));
     }
 
-    fn rules(&mut self) {
+    fn rules(&mut self) -> Vec<Record> {
         let mut rules = common_rules();
         let gas_and_water = if self.size.strict { NEVER } else { WET };
         rules.push(both(GAS, WET, gas_and_water));
         rules.truncate(self.size.rules as usize);
         let more = self.size.rules - rules.len() as u64;
         rules.extend((0..more).map(|_| self.house_rule()));
-        rules.into_iter().for_each(|rule| self.send(rule));
+        rules
     }
 
     /// Builds on the labels before, so that the rules form chains.
@@ -323,11 +344,14 @@ impl Well {
     /// Something that is turned away, most often for what it says.
     fn mistake(&mut self) {
         let mark = self.dice.pick(&self.marks);
-        let sorts = match (self.caliper(), self.size.countings, self.size.holes) {
-            (false, _, _) => 7,
-            (true, false, _) => 14,
-            (true, true, false) => 18,
-            (true, true, true) => 24,
+        let sorts = match self.size {
+            Size { profiles: true, .. } => 28,
+            Size { holes: true, .. } => 24,
+            Size {
+                countings: true, ..
+            } => 18,
+            Size { stretches: 0, .. } => 7,
+            _ => 14,
         };
         match self.dice.below(sorts) {
             0 => self.send(Record::Put(mark)),
@@ -379,7 +403,8 @@ impl Well {
             20 => self.send(hole(top, DEEPEST + 1)),
             21 => self.send(put_from_to(fact, top - 1, top)),
             22 => self.send(put_from_to(fact, bottom, bottom.saturating_add(1))),
-            _ => self.send(take(fact, bottom.saturating_add(1))),
+            23 => self.send(take(fact, bottom.saturating_add(1))),
+            sort => self.print_mistake(sort),
         }
     }
 
@@ -439,6 +464,9 @@ impl Well {
         (0..8).for_each(|_| self.question());
         if self.size.holes {
             self.ask_at_ends();
+        }
+        if self.size.profiles {
+            self.ask_at_margins();
         }
     }
 

@@ -1,5 +1,6 @@
 //! Cases with stretches and with countings that a run has to meet, each by its name; those with
-//! holes stand in `hole_cases.rs`, those with wells in `joined_cases.rs`.
+//! holes stand in `hole_cases.rs`, those with the profile in `profile_cases.rs`, those with wells in
+//! `joined_cases.rs`.
 
 use crate::distance::{near_starts, Start};
 use model::block::{read, COUNTING_AT, RULES_AT};
@@ -17,9 +18,11 @@ pub struct Seen {
     pub shown: Held,
     /// The block's bytes before the places, whatever they are.
     pub header: Vec<u8>,
-    length: u16,
-    kind: u16,
+    pub length: u16,
+    pub kind: u16,
     pub record: Option<Record>,
+    /// The record that last changed what is held.
+    pub last: Option<Record>,
     pub answer: Answer,
     /// The numbers that an answer of spans wrote.
     pub written: Vec<i32>,
@@ -38,9 +41,15 @@ impl Seen {
             length: number_at(input, 0),
             kind: number_at(input, 2),
             record: frame.as_ref().map(frame::read),
+            last: None,
             answer,
             written: spans[..written].to_vec(),
         }
+    }
+
+    /// The same behind the record that last changed what is held.
+    pub fn behind(self, last: Option<Record>) -> Seen {
+        Seen { last, ..self }
     }
 
     /// A put with that answer of a mark that fits.
@@ -97,7 +106,7 @@ impl Seen {
     }
 
     /// A record of kind 17 with that answer, which names a counting that fits, or none.
-    fn named(&self, answer: Answer, fits: impl Fn(Option<Counting>) -> bool) -> bool {
+    pub fn named(&self, answer: Answer, fits: impl Fn(Option<Counting>) -> bool) -> bool {
         matches!(self.record, Some(Record::Counting(value))
             if self.answer == answer && fits(Counting::named(value)))
     }

@@ -1,5 +1,5 @@
-//! In which combination of hole, counting, stretches and joined items each question was answered:
-//! what is right with any one of them may still go wrong where they meet.
+//! In which combination of hole, counting, stretches, joined items and profile each question was
+//! answered: what is right with any one of them may still go wrong where they meet.
 
 use crate::tally::listed;
 use model::held::Held;
@@ -9,11 +9,12 @@ use model::terms::*;
 const ANSWERS: [&str; 4] = ["yes", "no", "contradiction", "spans"];
 
 /// What is combined: its name where it is not so, and where it is.
-const PARTS: [[&str; 2]; 4] = [
+const PARTS: [[&str; 2]; 5] = [
     ["no hole", "hole"],
     ["old", "new"],
     ["points", "stretches"],
     ["alone", "joined"],
+    ["no profile", "profile"],
 ];
 
 const COMBINATIONS: usize = 1 << PARTS.len();
@@ -62,6 +63,7 @@ impl Combined {
             held.counting == Counting::New,
             held.marks.iter().any(|mark| !mark.is_point()),
             fact.items().iter().any(|&item| joined(links, item)),
+            held.profile,
         ];
         let combination = parts
             .iter()

@@ -2,12 +2,12 @@
 
 use crate::source::{Source, EDGE_DEPTHS};
 use dice::Dice;
-use model::block::{hole_bytes, mark_place, read, COUNTING_AT, HOLE_AT, HOLE_ENDS_AT};
-use model::block::{MARKS_AT, MARK_PLACE, RULES_AT, RULE_PLACE, SIZE};
+use model::block::{hole_bytes, mark_place, read, rule_place, COUNTING_AT, HOLE_AT, HOLE_ENDS_AT};
+use model::block::{MARKS_AT, MARK_PLACE, PROFILE_AT, RULES_AT, RULE_PLACE, SIZE};
 use model::frame::{four, framed};
 use model::service::{Lent, Memory};
-use model::short::{from_to, has};
-use model::terms::{Hole, DEEPEST, SHALLOWEST};
+use model::short::{both, from_to, has, out_of_profile};
+use model::terms::{Hole, Record, DEEPEST, EVERY, SHALLOWEST};
 
 /// More than the least that is enough, so that tails can be watched.
 pub const WHOLE: Lent = Lent {
@@ -32,7 +32,7 @@ pub fn damage(dice: &mut Dice, mut bytes: Vec<u8>) -> Vec<u8> {
         1 => bytes.truncate(dice.below(size) as usize),
         2 => bytes[0] = dice.pick(&[0, 1, 2, 3, bytes[0] - 1, bytes[0] + 1, 255]),
         3 => bytes[1] = dice.pick(&[0, 1, 255]),
-        4 => bytes[2] = dice.pick(&[0, 6, 12, 13, 14, 15, 16, 17, 18, 19, 255]),
+        4 => bytes[2] = dice.pick(&[0, 6, 12, 13, 14, 15, 16, 17, 18, 19, 20, 21, 22, 255]),
         5 => bytes[3] = dice.pick(&[1, 2, 128, 255]),
         6 => bytes = framed(u16::from(bytes[2]), &bytes[4..bytes.len().max(5) - 1]),
         7 => bytes = framed(u16::from(bytes[2]), &[&bytes[4..], &[1]].concat()),
@@ -111,11 +111,15 @@ fn some_mark(dice: &mut Dice, block: &[u8]) -> usize {
     MARKS_AT + MARK_PLACE * dice.below(count) as usize
 }
 
+/// Where a place of the block's rules starts; the first one where none is held.
+fn some_rule(dice: &mut Dice, block: &[u8]) -> usize {
+    let count = u64::from(block[0]).max(1);
+    RULES_AT + RULE_PLACE * dice.below(count) as usize
+}
+
 /// Copies one place over another, which makes a double among the rules or the marks.
 fn double(dice: &mut Dice, block: &mut [u8]) {
-    let rules = u64::from(block[0]).max(1);
-    let mut some_rule = || RULES_AT + RULE_PLACE * dice.below(rules) as usize;
-    let (from, to) = (some_rule(), some_rule());
+    let (from, to) = (some_rule(dice, block), some_rule(dice, block));
     match dice.below(2) {
         0 => block.copy_within(from..from + RULE_PLACE, to),
         _ => {
@@ -204,9 +208,30 @@ fn spoil_hole(dice: &mut Dice, block: &mut [u8]) {
     }
 }
 
+/// Lays a rule that is not in the profile over a held one, or leaves no other.
+fn lay_outside(dice: &mut Dice, block: &mut [u8]) {
+    if block[0] == 0 || dice.percent(40) {
+        block[..2].copy_from_slice(&[1, 0]);
+        block[RULES_AT..MARKS_AT].fill(0);
+    }
+    let at = some_rule(dice, block);
+    let any = dice.pick(&out_of_profile());
+    if let Record::Rule(rule) = dice.pick(&[any, any, both(EVERY, EVERY, 2)]) {
+        block[at..at + RULE_PLACE].copy_from_slice(&rule_place(&rule));
+    }
+}
+
+/// Changes a block's profile: its byte, or a rule so that it is outside.
+fn spoil_profile(dice: &mut Dice, block: &mut [u8]) {
+    if dice.percent(60) {
+        lay_outside(dice, block);
+    }
+    block[PROFILE_AT] = dice.pick(&[0, 1, 1, 1, 2, 2, 3, 255]);
+}
+
 /// Changes the block: a byte, an end, a double, one mark more, a setting, or everything.
 pub fn spoil(dice: &mut Dice, block: &mut [u8]) {
-    match dice.below(24) {
+    match dice.below(29) {
         0 => block.fill_with(|| dice.word() as u8),
         1 | 2 => double(dice, block),
         3 => block[..4].copy_from_slice(&[128, 0, 0, 1]),
@@ -216,6 +241,7 @@ pub fn spoil(dice: &mut Dice, block: &mut [u8]) {
         9 => block[some_mark(dice, block)] = dice.pick(&[0, 6, 7, 8, 13, 14]),
         10 | 11 => block[COUNTING_AT] = dice.pick(&[0, 1, 2, 255]),
         12..=17 => spoil_hole(dice, block),
+        18..=22 => spoil_profile(dice, block),
         _ => {
             let at = likely(dice, block);
             let now = block[at];

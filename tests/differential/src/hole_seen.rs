@@ -30,7 +30,7 @@ pub fn of_one_depth(hole: Hole) -> bool {
     hole.top == hole.bottom
 }
 
-fn is_every(fact: Fact) -> bool {
+pub fn is_every(fact: Fact) -> bool {
     matches!(fact, Fact::Label { label: EVERY, .. })
 }
 

@@ -37,6 +37,12 @@ pub struct Plan {
     pub digs: u64,
     /// Records about the hole's ends and what lies beside them.
     pub brinks: u64,
+    /// Streams that start with rules of the profile, most of them with the profile on.
+    pub profile: u64,
+    /// Records that switch the profile on, rules at its edges, and a reset now and then.
+    pub prints: u64,
+    /// Questions at the outermost marked depths and beyond.
+    pub margins: u64,
     /// Records about wells: what joins items, parts them, makes one bad, and questions.
     pub pads: u64,
     /// Links of the chain that a pad starts with.
@@ -72,6 +78,9 @@ fn small(dice: &mut Dice) -> Plan {
         hole: 40,
         digs: 2,
         brinks: 8,
+        profile: 20,
+        prints: 2,
+        margins: 4,
         pads: 0,
         chain: 0,
         never: dice.pick(&[0, 0, 0, 4, 12]),
@@ -93,6 +102,8 @@ fn full(dice: &mut Dice, plan: Plan) -> Plan {
         rules: dice.pick(&[30, 127, 128]),
         marks: dice.pick(&[110, 200, 255, 256]),
         depths: dice.pick(&[60, 94, 95, 96, 96]),
+        profile: 40,
+        prints: dice.pick(&[2, 30]),
         never: dice.pick(&[0, 0, 1]),
         edge: 3,
         ..plan
@@ -120,7 +131,18 @@ fn widest(plan: Plan) -> Plan {
     }
 }
 
-/// Points by the old kinds and the old counting alone, without a hole.
+/// Everything is wrong now and then.
+fn faulty(plan: Plan) -> Plan {
+    Plan {
+        edge: 6,
+        damage: 10,
+        spoil: 10,
+        short: 10,
+        ..plan
+    }
+}
+
+/// Points by the old kinds and the old counting alone, without a hole and without the profile.
 fn points(plan: Plan) -> Plan {
     Plan {
         stretches: 0,
@@ -131,6 +153,8 @@ fn points(plan: Plan) -> Plan {
         switches: 0,
         hole: 0,
         digs: 0,
+        profile: 0,
+        prints: 0,
         ..plan
     }
 }
@@ -143,6 +167,7 @@ fn long(plan: Plan) -> Plan {
         marks: 0,
         new: 0,
         hole: 0,
+        profile: 0,
         ..plan
     }
 }
@@ -220,6 +245,37 @@ fn crowded(dice: &mut Dice, plan: Plan) -> Plan {
     }
 }
 
+/// Few rules, or all places taken, and many a record about the profile.
+fn printing(dice: &mut Dice, plan: Plan) -> Plan {
+    let (rules, labels) = dice.pick(&[(0, 6), (1, 6), (2, 10), (3, 10), (128, 40), (128, 40)]);
+    Plan {
+        calls: 80,
+        rules,
+        labels,
+        profile: 60,
+        prints: 50,
+        edge: dice.pick(&[2, 10]),
+        damage: dice.pick(&[1, 20, 40]),
+        ..plan
+    }
+}
+
+/// Rules of the profile, few marks or none, and questions at the outermost of them and beyond.
+fn printed(dice: &mut Dice, plan: Plan) -> Plan {
+    let plan = few(plan);
+    Plan {
+        kinds: 2,
+        linked: 50,
+        rules: 2 + dice.below(10),
+        marks: dice.pick(&[0, 1, plan.marks, plan.marks]),
+        never: dice.pick(&[0, 0, 8]),
+        profile: 80,
+        prints: 3,
+        margins: 60,
+        ..plan
+    }
+}
+
 /// Several wells in a section, with few rules, so that some are bad and others are not.
 fn wells(dice: &mut Dice, plan: Plan) -> Plan {
     Plan {
@@ -264,8 +320,9 @@ fn pads(dice: &mut Dice, plan: Plan) -> Plan {
     }
 }
 
-/// Wells with points alone as often as with stretches, in a hole as often as not, and with rules
-/// enough that the counting matters: each combination comes up. The old counting does elsewhere.
+/// Wells with points alone as often as with stretches, in a hole as often as not, with rules of the
+/// profile as often as not, and with rules enough that the counting matters: each combination comes
+/// up. The old counting does elsewhere.
 fn combined(dice: &mut Dice, plan: Plan) -> Plan {
     let stretches = dice.pick(&[0, 60]);
     Plan {
@@ -274,6 +331,7 @@ fn combined(dice: &mut Dice, plan: Plan) -> Plan {
         near: plan.near.min(stretches),
         new: 65,
         hole: 50,
+        profile: 60,
         switches: 0,
         digs: 0,
         ..wells(dice, plan)
@@ -282,7 +340,7 @@ fn combined(dice: &mut Dice, plan: Plan) -> Plan {
 
 pub fn plan(dice: &mut Dice) -> Plan {
     let plan = small(dice);
-    match dice.below(47) {
+    match dice.below(52) {
         0..=1 => plan,
         2 => points(plan),
         3 | 4 => Plan {
@@ -301,13 +359,7 @@ pub fn plan(dice: &mut Dice) -> Plan {
         14 | 15 => Plan { spoil: 50, ..plan },
         16 => Plan { short: 30, ..plan },
         17 => widest(plan),
-        18 => Plan {
-            edge: 6,
-            damage: 10,
-            spoil: 10,
-            short: 10,
-            ..plan
-        },
+        18 => faulty(plan),
         19 => switching(dice, plan),
         20..=23 => counted(plan),
         24 => digging(dice, plan),
@@ -315,6 +367,8 @@ pub fn plan(dice: &mut Dice) -> Plan {
         29 | 30 => crowded(dice, plan),
         31..=35 => pads(dice, plan),
         36..=45 => combined(dice, plan),
+        46 | 47 => printing(dice, plan),
+        48..=50 => printed(dice, plan),
         _ => full(dice, plan),
     }
 }

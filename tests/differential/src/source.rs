@@ -18,10 +18,17 @@ pub const EDGE_DEPTHS: [i32; 7] = [
     -1,
 ];
 
-/// Carries out a record that would not be refused.
-pub fn accept(held: &mut Held, record: &Record) {
-    if record.refusal().or(held.refusal(record)).is_none() {
-        held.accept(record);
+/// What the rule concludes on these items.
+pub fn conclusion(rule: Rule, [item, to]: [u8; 2]) -> Fact {
+    match rule {
+        Rule::Label { b: label, .. } | Rule::Via { b: label, .. } | Rule::Both { c: label, .. } => {
+            Fact::Label { item, label }
+        }
+        Rule::LinkRule { s: kind, .. } => Fact::Link {
+            from: item,
+            kind,
+            to,
+        },
     }
 }
 
@@ -80,7 +87,7 @@ impl Source {
         self.label(first)
     }
 
-    fn concluded(&mut self) -> u8 {
+    pub fn concluded(&mut self) -> u8 {
         match self.dice.percent(self.plan.never) {
             true => NEVER,
             false => self.label(1),
@@ -107,7 +114,7 @@ impl Source {
         self.or_edge(usual, &edges)
     }
 
-    fn operator(&mut self) -> Operator {
+    pub fn operator(&mut self) -> Operator {
         let code = self.dice.pick(&[1, 1, 1, 1, 2, 3, 4, 5]);
         let code = self.or_edge(code, &[0, 1, 2, 5, 6, 255]);
         let short = self.dice.between(1, 20) as u32;
@@ -195,22 +202,14 @@ impl Source {
     /// Half of the questions are about what some rule concludes.
     pub fn asked_fact(&mut self, held: &Held) -> Fact {
         let rule = self.rule_or_held(held, 100);
-        let item = self.item();
-        match (self.dice.below(2), rule) {
-            (1, Rule::Label { b: label, .. } | Rule::Via { b: label, .. }) => {
-                Fact::Label { item, label }
-            }
-            (1, Rule::Both { c: label, .. }) => Fact::Label { item, label },
-            (1, Rule::LinkRule { s: kind, .. }) => Fact::Link {
-                from: item,
-                kind,
-                to: self.item(),
-            },
+        let items = [self.item(), self.item()];
+        match self.dice.below(2) {
+            1 => conclusion(rule, items),
             _ => self.fact(EVERY),
         }
     }
 
-    fn rule_or_held(&mut self, held: &Held, chance: u64) -> Rule {
+    pub fn rule_or_held(&mut self, held: &Held, chance: u64) -> Rule {
         match !held.rules.is_empty() && self.dice.percent(chance) {
             true => self.dice.pick(&held.rules),
             false => self.rule(),
@@ -248,6 +247,12 @@ impl Source {
         if self.dice.percent(self.plan.brinks) {
             return self.brink(held).unwrap_or_else(|| self.usual(held));
         }
+        if self.dice.percent(self.plan.prints) {
+            return self.print(held);
+        }
+        if self.dice.percent(self.plan.margins) {
+            return self.margin(held);
+        }
         match self.dice.percent(self.plan.apart) {
             true => self.apart(held).unwrap_or_else(|| self.usual(held)),
             false => self.usual(held),
@@ -284,8 +289,8 @@ impl Source {
         }
     }
 
-    /// Lists to start from, about as long as planned, with either counting, with a hole or without.
-    pub fn held(&mut self) -> Held {
+    /// Either counting, a hole or none, and the profile on or off.
+    fn settings(&mut self) -> Held {
         let mut held = Held::default();
         if self.dice.percent(self.plan.new) {
             held.counting = Counting::New;
@@ -293,6 +298,13 @@ impl Source {
         if self.dice.percent(self.plan.hole) {
             held.hole = Some(self.hole());
         }
+        held.profile = self.dice.percent(self.plan.profile);
+        held
+    }
+
+    /// Lists to start from, about as long as planned, with any settings.
+    pub fn held(&mut self) -> Held {
+        let mut held = self.settings();
         let edge = std::mem::replace(&mut self.plan.edge, 0);
         let rules: Vec<_> = (0..self.plan.rules * 2).map(|_| self.rule()).collect();
         let marks: Vec<_> = (0..self.plan.marks * 2)
@@ -307,9 +319,11 @@ impl Source {
                 _ => held.marks.len() >= room.1,
             };
             if !full {
-                accept(&mut held, &record);
+                held.offer(&record);
             }
         }
+        // Rules that all are in the profile, so that it can still be switched on.
+        held.profile &= !self.dice.percent(35);
         held
     }
 }

@@ -112,7 +112,8 @@ impl Stream {
     fn tell(&self, call: &Call, before: &[u8], answer: Answer, tally: &mut Tally) {
         tally.count(answer);
         if let Call::Record(input) = call {
-            tally.see(&Seen::new(before, input, answer, &self.model.spans));
+            let seen = Seen::new(before, input, answer, &self.model.spans);
+            tally.see(&seen.behind(self.last));
         }
         let refused = matches!(answer, Answer::Refused(_));
         let Some(question) = call.question().filter(|_| !refused) else {

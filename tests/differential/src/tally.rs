@@ -5,6 +5,7 @@ use crate::combined::Combined;
 use crate::hole_cases::HOLE_CASES;
 use crate::joined_cases::JOINED_CASES;
 use crate::joined_seen::Asked;
+use crate::profile_cases::PROFILE_CASES;
 use model::terms::{Answer, REFUSALS, REFUSAL_PLACES};
 
 const NAMES: [&str; 7] = [
@@ -31,7 +32,7 @@ pub struct Tally {
 }
 
 fn all_cases() -> impl Iterator<Item = &'static Case> {
-    CASES.iter().chain(&HOLE_CASES)
+    CASES.iter().chain(&HOLE_CASES).chain(&PROFILE_CASES)
 }
 
 /// Names with their numbers, parted by commas.

@@ -1,7 +1,7 @@
 //! Draws records about the wells of a pad: links that join items and part them, marks that make an
 //! item bad, and questions about all of them.
 
-use crate::source::{accept, Source};
+use crate::source::Source;
 use model::held::Held;
 use model::terms::*;
 
@@ -30,9 +30,9 @@ impl Source {
         self.far = [chain[0], chain[self.plan.chain]];
         records.push(Record::Rule(self.clash_rule()));
         self.plan.edge = edge;
-        records.into_iter().for_each(|record| accept(held, &record));
+        records.iter().for_each(|record| held.offer(record));
         let broken = self.clash(held, self.far[1]);
-        accept(held, &broken);
+        held.offer(&broken);
     }
 
     /// So many different items, in any order.

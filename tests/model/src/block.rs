@@ -6,6 +6,7 @@ use crate::terms::{Counting, Fact, Hole, Mark, Operator, Rule, MAX_MARKS, MAX_RU
 
 pub const SIZE: usize = 4_128;
 pub const COUNTING_AT: usize = 4;
+pub const PROFILE_AT: usize = 5;
 pub const HOLE_AT: usize = 6;
 pub const HOLE_ENDS_AT: usize = 8;
 pub const RULES_AT: usize = 32;
@@ -13,7 +14,7 @@ pub const MARKS_AT: usize = 1_056;
 pub const RULE_PLACE: usize = 8;
 pub const MARK_PLACE: usize = 12;
 
-fn rule_place(rule: &Rule) -> Vec<u8> {
+pub fn rule_place(rule: &Rule) -> Vec<u8> {
     let (head, n) = match *rule {
         Rule::Label { op, a, b } => ([2, op.code, a, b], op.n),
         Rule::Both { a, b, c } => ([3, a, b, c], 0),
@@ -49,6 +50,7 @@ pub fn encode(held: &Held) -> Vec<u8> {
         Counting::Old => 0,
         Counting::New => 1,
     };
+    block[PROFILE_AT] = u8::from(held.profile);
     block[HOLE_AT..HOLE_ENDS_AT + 8].copy_from_slice(&hole_bytes(held.hole));
     block[RULES_AT..RULES_AT + rules.len()].copy_from_slice(&rules);
     block[MARKS_AT..MARKS_AT + marks.len()].copy_from_slice(&marks);
@@ -84,7 +86,8 @@ fn read_hole(block: &[u8]) -> Option<Hole> {
 }
 
 /// The lists as the places show them; none where a count or a place's kind is none. Any counting
-/// but 0 is read as the new one, and any byte but 0 as a hole; `decode` shows whether they are.
+/// but 0 is read as the new one, and any byte but 0 as a hole, or as a profile that is on; `decode`
+/// shows whether they are.
 pub fn read(block: &[u8]) -> Option<Held> {
     let rules = usize::from(u16::from_le_bytes([block[0], block[1]]));
     let marks = usize::from(u16::from_le_bytes([block[2], block[3]]));
@@ -100,6 +103,7 @@ pub fn read(block: &[u8]) -> Option<Held> {
     Some(Held {
         counting,
         hole: read_hole(block),
+        profile: block[PROFILE_AT] != 0,
         rules: rule_places.map(read_rule).collect::<Option<_>>()?,
         marks: mark_places.map(read_mark).collect::<Option<_>>()?,
     })

@@ -14,7 +14,7 @@ pub type Broken = (u32, usize);
 /// The length that a known kind asks for.
 fn length_of(kind: u16) -> Option<usize> {
     let length = match kind {
-        1 => 2,
+        1 | 21 => 2,
         2 | 4 => 9,
         3 | 5 => 5,
         6 | 8 => 8,
@@ -148,7 +148,8 @@ pub fn read(frame: &Frame) -> Record {
         15 => Record::Take(stretch(label_fact(body), &body[2..])),
         16 => Record::Take(stretch(link_fact(body), &body[3..])),
         17 => Record::Counting(body[0]),
-        _ => Record::Hole(hole(body)),
+        18 => Record::Hole(hole(body)),
+        _ => Record::Profile,
     }
 }
 
@@ -201,6 +202,7 @@ pub fn bytes(record: &Record) -> Vec<u8> {
         Record::Spans { item, label } => framed(12, &[*item, *label]),
         Record::Counting(value) => framed(17, &[*value]),
         Record::Hole(hole) => framed(18, &ends_bytes(hole.ends())),
+        Record::Profile => framed(21, &[]),
     }
 }
 

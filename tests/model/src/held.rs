@@ -1,5 +1,5 @@
-//! The held rules and marks with the counting and the hole in force, and the refusals that look at
-//! them.
+//! The held rules and marks with the counting, the hole and the profile in force, and the refusals
+//! that look at them.
 
 use crate::depths::Depths;
 use crate::terms::{Counting, Hole, Mark, Record, Rule, MAX_DEPTHS, MAX_MARKS, MAX_RULES};
@@ -9,6 +9,8 @@ use std::collections::{BTreeSet, HashSet};
 pub struct Held {
     pub counting: Counting,
     pub hole: Option<Hole>,
+    /// Whether the print profile is on.
+    pub profile: bool,
     pub rules: Vec<Rule>,
     pub marks: Vec<Mark>,
 }
@@ -17,6 +19,12 @@ impl Held {
     /// The marked depths: all tops and bottoms, each once.
     pub fn ends(&self) -> BTreeSet<i32> {
         self.marks.iter().flat_map(Mark::ends).collect()
+    }
+
+    /// The shallowest and the deepest marked depth.
+    pub fn outermost(&self) -> Option<[i64; 2]> {
+        let ends = self.ends();
+        Some([*ends.first()?, *ends.last()?].map(i64::from))
     }
 
     /// The depths that there are.
@@ -31,12 +39,19 @@ impl Held {
         self.hole.is_some_and(|hole| !hole.holds(mark))
     }
 
-    /// The first of refusals 15, 16, 17 and 9 to 12 that applies. Only kind 17 knows 15, and it has
-    /// no depth for 8 and 14, which are tested in between.
+    /// Whether all rules are in the print profile, be it on or off.
+    pub fn in_profile(&self) -> bool {
+        self.rules.iter().all(|rule| rule.in_profile())
+    }
+
+    /// The first of refusals 15, 16, 17, 20 and 9 to 12 that applies. Only kind 17 knows 15, and it
+    /// has no depth for 8 and 14, which are tested in between.
     pub fn refusal(&self, record: &Record) -> Option<u32> {
         match record {
             Record::Counting(_) => (!self.rules.is_empty()).then_some(15),
             Record::Hole(_) => (!self.marks.is_empty()).then_some(17),
+            Record::Profile => (!self.in_profile()).then_some(20),
+            Record::Rule(rule) if self.profile && !rule.in_profile() => Some(20),
             Record::Rule(rule) if self.rules.contains(rule) => Some(9),
             Record::Rule(_) => (self.rules.len() >= MAX_RULES).then_some(11),
             Record::Put(mark) if self.outside(mark) => Some(16),
@@ -67,7 +82,15 @@ impl Held {
             Record::Take(mark) => self.marks.retain(|held| held != mark),
             Record::Counting(value) => self.counting = Counting::named(*value).expect("1 or 2"),
             Record::Hole(hole) => self.hole = Some(*hole),
+            Record::Profile => self.profile = true,
             Record::Query(..) | Record::Spans { .. } => {}
+        }
+    }
+
+    /// Carries out a record that would not be refused.
+    pub fn offer(&mut self, record: &Record) {
+        if record.refusal().or(self.refusal(record)).is_none() {
+            self.accept(record);
         }
     }
 
@@ -78,9 +101,10 @@ impl Held {
             && !self.marks.iter().any(|mark| self.outside(mark))
     }
 
-    /// Whether records can lead to these lists: ranges, limits, no double, and a hole, if there is
-    /// one, around all marks. The counting comes before the rules and the hole before the marks, so
-    /// either counting goes with any lists, and such a hole with any rules.
+    /// Whether records can lead to these lists: ranges, limits, no double, a hole, if there is one,
+    /// around all marks, and a profile, if it is on, that all rules are in. The counting comes
+    /// before the rules and the hole before the marks, so either counting goes with any lists, and
+    /// such a hole with any rules.
     pub fn reachable(&self) -> bool {
         let rules: HashSet<_> = self.rules.iter().collect();
         let marks: HashSet<_> = self.marks.iter().collect();
@@ -92,6 +116,7 @@ impl Held {
             && marks.len() <= MAX_MARKS
             && self.ends().len() <= MAX_DEPTHS
             && self.hole_in_order()
+            && (!self.profile || self.in_profile())
             && puts.all(|record| record.refusal().is_none())
             && learned.all(|record| record.refusal().is_none())
     }

@@ -19,8 +19,9 @@ pub fn listing(input: &[u8]) -> String {
             break;
         }
         lines += &format!("{number} {answer}{}\n", span_text(&memory, answer));
-        // A broken frame uses all that is left, so the next call would be the end.
-        if answer == Answer::Refused(3) {
+        // A broken frame uses all that is left, so the next call would be the end. A block that no
+        // records lead to uses nothing, so the same call would come again.
+        if answer == Answer::Refused(3) || used == 0 {
             break;
         }
     }

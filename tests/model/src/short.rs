@@ -99,6 +99,44 @@ pub fn never_everywhere() -> [Record; 2] {
     [label(within(1), EVERY, 1), label(within(1), 1, NEVER)]
 }
 
+/// A rule of each sort that is in the print profile.
+pub fn in_profile() -> [Record; 13] {
+    [
+        label(within(1), 1, 2),
+        label(within(MAX_N), 1, 2),
+        label(whole(BETWEEN), 1, 2),
+        both(1, 1, 2),
+        both(1, 3, NEVER),
+        both(EVERY, 1, 2),
+        both(1, EVERY, 2),
+        link_rule(within(1), 0, 1),
+        link_rule(within(MAX_N), 0, 1),
+        link_rule(whole(BETWEEN), 0, 1),
+        via(0, 1, 2),
+        via(0, EVERY, 2),
+        via(7, EVERY, NEVER),
+    ]
+}
+
+/// One of each sort that is not.
+pub fn out_of_profile() -> [Record; 13] {
+    [
+        label(whole(ABOVE), 1, 2),
+        label(whole(BELOW), 1, 2),
+        label(whole(ANYWHERE), 1, 2),
+        label(within(1), EVERY, 2),
+        label(within(MAX_N), EVERY, 2),
+        label(whole(BETWEEN), EVERY, 2),
+        label(whole(ABOVE), EVERY, 2),
+        label(whole(BELOW), EVERY, 2),
+        label(whole(ANYWHERE), EVERY, 2),
+        both(EVERY, EVERY, 2),
+        link_rule(whole(ABOVE), 0, 1),
+        link_rule(whole(BELOW), 0, 1),
+        link_rule(whole(ANYWHERE), 0, 1),
+    ]
+}
+
 /// Links 5 apart, which a rule fills by the new counting alone, and what follows from them.
 pub fn links_5_apart(value: u8) -> [Record; 6] {
     [

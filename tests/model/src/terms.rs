@@ -15,10 +15,10 @@ pub const SHALLOWEST: i32 = -10_000;
 pub const DEEPEST: i32 = 200_000;
 
 /// The refusal numbers in the order in which they are tested: 15 stands directly after 7, and 14,
-/// 16 and 17 directly after 8.
-pub const REFUSALS: [u32; 16] = [1, 2, 3, 4, 5, 6, 7, 15, 8, 14, 16, 17, 9, 10, 11, 12];
+/// 16, 17 and 20 directly after 8.
+pub const REFUSALS: [u32; 17] = [1, 2, 3, 4, 5, 6, 7, 15, 8, 14, 16, 17, 20, 9, 10, 11, 12];
 /// As many places as an array by refusal number needs.
-pub const REFUSAL_PLACES: usize = 18;
+pub const REFUSAL_PLACES: usize = 21;
 
 /// All ordered pairs of items.
 pub fn pairs() -> impl Iterator<Item = (u8, u8)> {
@@ -44,6 +44,11 @@ impl Operator {
             BETWEEN..=ANYWHERE => self.n == 0,
             _ => false,
         }
+    }
+
+    /// Whether it may give depths above the least of its set or below the greatest.
+    pub fn goes_beyond(&self) -> bool {
+        matches!(self.code, ABOVE | BELOW | ANYWHERE)
     }
 }
 
@@ -89,6 +94,17 @@ impl Rule {
         match self {
             Rule::Label { op, .. } | Rule::LinkRule { op, .. } => Some(op),
             Rule::Both { .. } | Rule::Via { .. } => None,
+        }
+    }
+
+    /// Whether it is in the print profile: no operator that goes beyond what is there, and no left
+    /// side that is EVERY alone. A link is never everywhere, so every VIA is in it.
+    pub fn in_profile(self) -> bool {
+        match self {
+            Rule::Label { op, a, .. } => !op.goes_beyond() && a != EVERY,
+            Rule::Both { a, b, .. } => a != EVERY || b != EVERY,
+            Rule::LinkRule { op, .. } => !op.goes_beyond(),
+            Rule::Via { .. } => true,
         }
     }
 }
@@ -170,6 +186,7 @@ pub enum Record {
     Spans { item: u8, label: u8 },
     Counting(u8),
     Hole(Hole),
+    Profile,
 }
 
 impl Record {
@@ -187,7 +204,7 @@ impl Record {
 
     fn names(&self) -> bool {
         match *self {
-            Record::Reset | Record::Counting(_) | Record::Hole(_) => true,
+            Record::Reset | Record::Counting(_) | Record::Hole(_) | Record::Profile => true,
             Record::Rule(rule) => rule_names(rule),
             Record::Put(mark) | Record::Take(mark) => fact_names(mark.fact, 1, NEVER - 1),
             Record::Query(fact, _) => fact_names(fact, EVERY, NEVER),

@@ -1,7 +1,8 @@
 //! Lent memory: the block's encoding, lists at their limits, and the order of refusals.
 
 use model::block::{
-    decode, encode, COUNTING_AT, HOLE_AT, HOLE_ENDS_AT, MARKS_AT, MARK_PLACE, RULES_AT, SIZE,
+    decode, encode, COUNTING_AT, HOLE_AT, HOLE_ENDS_AT, MARKS_AT, MARK_PLACE, PROFILE_AT, RULES_AT,
+    SIZE,
 };
 use model::frame::{bytes, framed};
 use model::held::Held;
@@ -37,6 +38,15 @@ fn full() -> Held {
     }
 }
 
+/// The same with the profile on, and another rule in place of the one with EVERY twice.
+fn printed() -> Held {
+    Held {
+        rules: (1..129).map(rule).collect(),
+        profile: true,
+        ..full()
+    }
+}
+
 fn memory_of(held: &Held) -> Memory {
     let mut memory = Memory::zeros(Lent::EXACT);
     memory.block = encode(held);
@@ -60,6 +70,13 @@ fn lists_at_their_limits() {
     assert_eq!(stretch(DEEPEST + 1, 0), Answer::Refused(8));
     assert_eq!(call(&held, &Record::Rule(rule(0))), Answer::Refused(9));
     assert_eq!(call(&held, &Record::Rule(rule(300))), Answer::Refused(11));
+    let printed = printed();
+    assert_eq!(call(&printed, &Record::Rule(rule(1))), Answer::Refused(9));
+    assert_eq!(call(&printed, &Record::Rule(rule(0))), Answer::Refused(20));
+    assert_eq!(
+        call(&printed, &Record::Rule(rule(300))),
+        Answer::Refused(11)
+    );
 }
 
 #[test]
@@ -121,6 +138,32 @@ fn the_counting_in_the_block() {
     }
 }
 
+/// Byte 5 is 0 or 1, and with 1 there all rules are in the profile.
+#[test]
+fn the_profile_in_the_block() {
+    let with = |held: &Held, value| {
+        let mut block = encode(held);
+        block[5] = value;
+        decode(&block)
+    };
+    let on = Held {
+        profile: true,
+        ..Held::default()
+    };
+    for printed in [on, printed()] {
+        let off = Held {
+            profile: false,
+            ..printed.clone()
+        };
+        assert_eq!([encode(&off)[5], encode(&printed)[5]], [0, 1]);
+        assert_eq!(with(&printed, 0), Some(off));
+        assert!((2..=255).all(|value| with(&printed, value).is_none()));
+        assert_eq!(with(&printed, 1), Some(printed));
+    }
+    assert_eq!(with(&full(), 0), Some(full()));
+    assert!((1..=255).all(|value| with(&full(), value).is_none()));
+}
+
 /// A byte of the second of two stretches that no record leads to.
 #[test]
 fn bad_bytes_of_a_place_are_seen() {
@@ -154,7 +197,7 @@ fn stray_bytes_are_seen() {
     held.rules.pop();
     held.marks.pop();
     let stray = [
-        COUNTING_AT + 1,
+        PROFILE_AT,
         HOLE_AT + 1,
         HOLE_ENDS_AT,
         HOLE_ENDS_AT + 8,
@@ -179,8 +222,14 @@ fn unreachable_lists_are_seen() {
         rules: vec![rule(0), rule(0)],
         ..Held::default()
     };
+    let unprinted = Held {
+        rules: vec![rule(1), rule(0)],
+        profile: true,
+        ..Held::default()
+    };
     let lists = [
         double,
+        unprinted,
         marked((0..97).map(|depth| mark(1, depth))),
         // 48 stretches with 96 ends, and a point.
         marked((0..49).map(|i| from_to(has(0, 1), 9 * i, 9 * i + i32::from(i < 48)))),
@@ -216,14 +265,16 @@ fn first_that_applies() {
 #[test]
 fn a_reset_cannot_repair_a_block() {
     let mut memory = memory_of(&full());
-    memory.block[COUNTING_AT] = 2;
-    let before = memory.clone();
     let reset = bytes(&Record::Reset);
-    assert_eq!(
-        record(&mut memory, &Lent::EXACT, &reset),
-        (Answer::Refused(2), 0)
-    );
-    assert_eq!(memory, before);
+    for (at, value) in [(COUNTING_AT, 2), (PROFILE_AT, 2), (PROFILE_AT, 1)] {
+        let good = memory.block[at];
+        memory.block[at] = value;
+        let before = memory.clone();
+        let said = record(&mut memory, &Lent::EXACT, &reset);
+        assert_eq!(said, (Answer::Refused(2), 0));
+        assert_eq!(memory, before);
+        memory.block[at] = good;
+    }
 }
 
 #[test]

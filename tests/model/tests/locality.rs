@@ -64,7 +64,7 @@ fn held(dice: &mut Dice) -> Held {
         counting: dice.pick(&[Counting::Old, Counting::New]),
         hole,
         rules: (0..rules).map(|_| rule(dice)).collect(),
-        marks: Vec::new(),
+        ..Held::default()
     };
     (0..marks).for_each(|_| toggle(&mut held, mark(dice)));
     held

@@ -1,7 +1,7 @@
 //! Streams as text: one record on a line, ` => ` and the answer that it must get.
 //! `name WORD NUMBER` gives an item, label or link kind a name; `#` starts a comment.
 //! A mark at one depth is put and taken by the kinds 6 to 9, `from TOP to BOTTOM` by 13 to 16;
-//! `counting NUMBER` is kind 17, `hole from TOP to BOTTOM` kind 18.
+//! `counting NUMBER` is kind 17, `hole from TOP to BOTTOM` kind 18, `profile` kind 21.
 
 use model::frame::{bytes, wide_bytes};
 use model::short::*;
@@ -105,6 +105,7 @@ impl Line<'_> {
             "spans" => spans(self.small()?, self.small()?),
             "counting" => counting(self.small()?),
             "hole" => self.ends().map(|(top, bottom)| hole(top, bottom))?,
+            "profile" => Record::Profile,
             other => return Err(format!("{other} is no record")),
         })
     }

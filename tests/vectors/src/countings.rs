@@ -2,7 +2,7 @@
 
 use crate::cases::{patterns, refill, whole_rules};
 use crate::script::{Part, Script, WHOLE};
-use model::block::{COUNTING_AT, SIZE};
+use model::block::{COUNTING_AT, HOLE_AT, PROFILE_AT, SIZE};
 use model::frame::{bytes, framed};
 use model::service::Lent;
 use model::short::*;
@@ -54,7 +54,7 @@ fn refused_each(script: &mut Script) {
     ];
     script.call(&short, &bytes(&counting(2)));
     script.call(&short, &bytes(&counting(3)));
-    script.spoiled(COUNTING_AT + 1, 1, &counting(2));
+    script.spoiled(PROFILE_AT, 2, &counting(2));
     inputs.iter().for_each(|input| {
         script.call(&WHOLE, input);
     });
@@ -172,7 +172,8 @@ pub fn poked_counting(script: &mut Script) {
     script.call(&WHOLE, &[]);
     decided_by_counting(script);
     refill(script);
-    for at in COUNTING_AT + 1..32 {
+    script.spoiled(PROFILE_AT, 2, &counting(2));
+    for at in HOLE_AT..32 {
         script.spoiled(at, 1, &counting(2));
     }
     script.spoiled(SIZE, 255, &spans(0, 2));

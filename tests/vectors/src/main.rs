@@ -4,6 +4,7 @@ mod cases;
 mod countings;
 mod hole;
 mod joined;
+mod profile;
 mod script;
 mod stretches;
 
@@ -67,6 +68,15 @@ const CASES: &[fn(&mut Script)] = &[
     joined::other_depths,
     joined::derived,
     joined::all_bad,
+    cases::the_end,
+    profile::switching,
+    profile::refused,
+    profile::rules,
+    profile::too_late,
+    profile::bodies,
+    profile::full_list,
+    profile::byte_of_the_block,
+    profile::poked_profile,
     cases::the_end,
 ];
 
