@@ -31,8 +31,8 @@
  *
  * Records: a 2-byte length, a 2-byte kind, the body. Every number is little-endian; signed ones are two's complement.
  * The length field counts kind and body and not itself, so that a record has length + 2 bytes. Fields are one byte
- * each but for n, 4 bytes unsigned, the depth, top and bottom of a mark or a hole, 4 bytes signed, and the depth of a
- * question, 8 bytes signed.
+ * each but for n, 4 bytes unsigned, the depth, top and bottom of a mark or a hole and the amount of a shift, 4 bytes
+ * signed, and the depth of a question, 8 bytes signed.
  *
  *   kind    name                 body                              length field
  *   1       RESET                none                              2
@@ -49,6 +49,7 @@
  *   14, 16  PUT, TAKE link       from, link kind, to, top, bottom  13
  *   17      COUNTING             1 (old) or 2 (new)                3
  *   18      HOLE                 top, bottom                       10
+ *   20      SHIFT                amount                            6
  *   21      PROFILE              none                              2
  *
  * Items are 0 to 15, link kinds 0 to 7, labels 0 to 63: 0 is EVERY, which holds for every item at every depth, 63 is
@@ -82,8 +83,17 @@
  * no, or contradiction, which goes first. The pieces are those of the hole: the first begins at its top, the last ends
  * at its bottom. The hole's ends are no marked depths. A mark to put that reaches outside is refused with 16. Send kind
  * 18 before the marks: while a mark is held any hole, the one in force too, is refused with 17; rules don't matter. A
- * later hole replaces the one before, and it stays when the last mark is taken. The empty state has no hole, and RESET
- * goes back to that.
+ * later hole replaces the one before, and it stays when the last mark is taken; a shift moves it with the marks. The
+ * empty state has no hole, and RESET goes back to that.
+ *
+ * Shift: after a stretch correction all depths move by the same amount. Kind 20 adds its amount, which may be negative
+ * and as large as its 4 bytes hold, to both ends of each held mark and of the hole, or to none of them: it is refused
+ * with 8 if any of these depths would leave -10,000 to 200,000. The sums are exact. With no mark and no hole there is
+ * nothing to move, and any amount is done. The marks stay in their order, and rules, counting and profile as they are;
+ * from then on a mark is taken, or already held, by its moved ends. After a shift by c the answer at depth d + c is the
+ * earlier answer at d, for every d where d + c is a 64-bit number, contradiction with the same item; the spans are the
+ * earlier ones moved by c, and an end that was missing still is. A shift by -c takes it back, and the block is then
+ * what it was; where 4 bytes don't hold -c, nothing had moved.
  *
  * Profile: for a paper log, which shows only what lies between marks. A rule is in the print profile unless it is a
  * LABEL or LINKRULE with ABOVE, BELOW or ANYWHERE, a LABEL with EVERY on its left, by WITHIN and BETWEEN too, or a BOTH
@@ -163,7 +173,8 @@ enum harmikse_refusal {
     HARMIKSE_WRONG_LENGTH = 5,   /* length not that of the kind */
     HARMIKSE_BAD_NAME = 6,       /* an item, label or link kind out of range */
     HARMIKSE_BAD_OPERATOR = 7,   /* code or n out of range, or a counting other than 1 and 2 */
-    HARMIKSE_BAD_DEPTH = 8,      /* a mark's depth, top or bottom, or an end of a hole, out of range */
+    /* a mark's depth, top or bottom, or an end of a hole, out of range, or a shift by which a held one would be */
+    HARMIKSE_BAD_DEPTH = 8,
     HARMIKSE_ALREADY_HELD = 9,   /* a rule, or a mark to put */
     HARMIKSE_NOT_HELD = 10,      /* a mark to take; what is only derived is not held */
     HARMIKSE_LIST_FULL = 11,     /* 128 rules or 256 marks */

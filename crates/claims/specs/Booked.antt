@@ -23,6 +23,7 @@ use Rattle.terms.specs.Lists.{strike}
 use Rattle.refusals.specs.Refusals.{rank, tested, test, Test}
 use Rattle.refusals.specs.Joining.{clash}
 use Rattle.terms.specs.Same.{sameMark}
+use Rattle.shift.specs.Shifted.{shifted}
 use Rattle.records.specs.declared.Command.{Command}
 use Rattle.records.specs.declared.Command.the-variants as Command
 use Rattle.frames.specs.Frames.{kindField, bodyOf, usedFor}
@@ -43,6 +44,7 @@ use Rattle.claims.specs.Table.{
   Puts,
   Takes,
   Sets,
+  Shifts,
   Asks,
   said,
   brokenFrame,
@@ -69,6 +71,7 @@ use Rattle.claims.specs.Reference.{
   struck,
   counted,
   confined,
+  moved,
   restricted,
   answered,
 }
@@ -125,6 +128,7 @@ module _ (h : Held) (f : Fed) where
   by-command (Command.Take m) e l d Told.changed = struck (record { passes = e; left = l; says = d })
   by-command (Command.Count c) e l d Told.changed = counted (record { passes = e; left = l; says = d })
   by-command (Command.Confine t b) e l d Told.changed = confined (record { passes = e; left = l; says = d })
+  by-command (Command.Shift c) e l d Told.changed = moved (record { passes = e; left = l; says = d })
   by-command Command.Restrict e l d Told.changed = restricted (record { passes = e; left = l; says = d })
   by-command (Command.Ask q) e l d (Told.asked r w) = answered r (record { passes = e; left = l; says = d }) w
 
@@ -153,6 +157,7 @@ module _ (h : Held) (f : Fed) where
     take-entry : {m : Mark} → Entry Tested.Passed false (Takes m) (plain Answer.Done (recordUsed f)) (withMarks h (strike (sameMark m) (h .marks)))
     count-entry : {c : Counting} → Entry Tested.Passed false (Sets (Counts c)) (plain Answer.Done (recordUsed f)) (withCounting h c)
     confine-entry : {t b : ℤ} → Entry Tested.Passed false (Sets (Confines t b)) (plain Answer.Done (recordUsed f)) (withHole h (Part t b))
+    shift-entry : {c : ℤ} → Entry Tested.Passed false (Shifts c) (plain Answer.Done (recordUsed f)) (shifted c h)
     restrict-entry : Entry Tested.Passed false (Sets Restricts) (plain Answer.Done (recordUsed f)) (withProfile h On)
     ask-entry : {q : Question} (r : Reply) → Decides h q r → Entry Tested.Passed false (Asks q) (shown r (recordUsed f)) h
 
@@ -165,6 +170,7 @@ module _ (h : Held) (f : Fed) where
   entry-one take-entry take-entry = (refl, refl)
   entry-one count-entry count-entry = (refl, refl)
   entry-one confine-entry confine-entry = (refl, refl)
+  entry-one shift-entry shift-entry = (refl, refl)
   entry-one restrict-entry restrict-entry = (refl, refl)
   entry-one (ask-entry {q = q} r d) (ask-entry r′ e) = (ap (λ w. shown w (recordUsed f)) (at-most-one h q r r′ d e), refl)
 
@@ -188,6 +194,7 @@ module _ (h : Held) (f : Fed) where
   entry (struck a) = accepted-here a take-entry
   entry (counted a) = accepted-here a count-entry
   entry (confined a) = accepted-here a confine-entry
+  entry (moved a) = accepted-here a shift-entry
   entry (restricted a) = accepted-here a restrict-entry
   entry (answered r a d) = accepted-here a (ask-entry r d)
 

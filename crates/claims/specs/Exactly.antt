@@ -154,7 +154,7 @@ module _ (h : Held) (w : Limited h) (m : Buffers) (u : ℕ) where
 -- ---- the call that asks
 
 -- a block that holds h reads as h, and is good
-held-in : (b : List ℕ) (h : Held) → Holding b h → (readHeld b ≡ h) × (good b ≡ true)
+pub held-in : (b : List ℕ) (h : Held) → Holding b h → (readHeld b ≡ h) × (good b ≡ true)
 held-in b h H =
     let t = drop SIZE b in
     let e : b ≡ encode h ++ t = sym (take-append-drop SIZE b) ∙ ap (λ x. x ++ t) (H .encoded) in
@@ -177,6 +177,7 @@ asks-command (Command.Put k) q e = differ (cc)
 asks-command (Command.Take k) q e = differ (cc)
 asks-command (Command.Count k) q e = differ (cc)
 asks-command (Command.Confine t b) q e = differ (cc)
+asks-command (Command.Shift c) q e = differ (cc)
 asks-command Command.Restrict q e = differ (cc)
 asks-command (Command.Ask p) q e = let f : p ≡ q = cc in ap Command.Ask f
 

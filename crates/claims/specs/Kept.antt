@@ -39,6 +39,9 @@ pub use Rattle.terms.specs.Limited.{
   in-range,
 }
 pub use Rattle.decide.specs.Count.{fewer-ends, few-cuts}
+use Rattle.shift.specs.Shifted.{shifted, stays}
+use Rattle.moves.specs.Limits.{shift-limited}
+use Rattle.correction.specs.Changes.{shiftTests}
 use Rattle.state.specs.Changes.{listTests, ruleTests, roomTests, putTests, confineTests, restrictTests, addRule, putMark, takeMark}
 
 -- ---- a test that does not apply
@@ -140,6 +143,10 @@ confined-limited h t b w p e =
     none : (ms : List Mark) → T (not (ltb 0 (length ms))) → T (every (liesIn (Part t b)) ms)
     none [] u = tt
     none (m ∷ ms) u = let z : ⊥ = omega (arith, nltb→le 0 (length (m ∷ ms)) u) in absurd z
+
+-- a shift, where no depth leaves its range
+pub shifted-limited : (h : Held) (c : ℤ) → Limited h → tested (shiftTests h c) ≡ Tested.Passed → Limited (shifted c h)
+shifted-limited h c w e = shift-limited c h (twice (stays c h) (passed (not (stays c h)) 8 [] e .0)) w
 
 -- the profile, where no rule outside it is held
 pub restricted-limited : (h : Held) → Limited h → tested (restrictTests h) ≡ Tested.Passed → Limited (withProfile h On)

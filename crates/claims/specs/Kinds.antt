@@ -26,6 +26,7 @@ use Rattle.claims.specs.Table.{
   Puts,
   Takes,
   Sets,
+  Shifts,
   Asks,
   saidBy,
   brokenFrame,
@@ -54,8 +55,13 @@ by-kind P (n ∷ ns) w k f = go (eqb k n) refl (λ e. by-kind P ns (w .1) k (λ 
     go true e c = subst P (sym (eqb→eq k n (of-true e))) (w .0)
     go false e c = c e
 
+-- one kind more
+infixr 20 _&_
+abbrev _&_ : {A B : Type 0} → A → B → A × B
+a & b = (a, b)
+
 abbrev numbers : List ℕ
-numbers = 1 ∷ 2 ∷ 3 ∷ 4 ∷ 5 ∷ 6 ∷ 7 ∷ 8 ∷ 9 ∷ 10 ∷ 11 ∷ 12 ∷ 13 ∷ 14 ∷ 15 ∷ 16 ∷ 17 ∷ 18 ∷ 21 ∷ []
+numbers = 1 ∷ 2 ∷ 3 ∷ 4 ∷ 5 ∷ 6 ∷ 7 ∷ 8 ∷ 9 ∷ 10 ∷ 11 ∷ 12 ∷ 13 ∷ 14 ∷ 15 ∷ 16 ∷ 17 ∷ 18 ∷ 20 ∷ 21 ∷ []
 
 -- ---- rows from 6 on
 
@@ -85,16 +91,17 @@ unknown h k b v =
     let (n₁₆, v₁₆) = v₁₅ in
     let (n₁₇, v₁₇) = v₁₆ in
     let (n₁₈, v₁₈) = v₁₇ in
-    let n₂₁ = v₁₈ .0 in (
-      simp (n₁, n₂, n₃, n₄, n₅, n₆, n₇, n₈, n₉, n₁₀, n₁₁, n₁₂, n₁₃, n₁₄, n₁₅, n₁₆, n₁₇, n₁₈, n₂₁),
-      simp (n₁, n₂, n₃, n₄, n₅, n₆, n₇, n₈, n₉, n₁₀, n₁₁, n₁₂, n₁₃, n₁₄, n₁₅, n₁₆, n₁₇, n₁₈, n₂₁),
+    let (n₂₀, v₂₀) = v₁₈ in
+    let n₂₁ = v₂₀ .0 in (
+      simp (n₁, n₂, n₃, n₄, n₅, n₆, n₇, n₈, n₉, n₁₀, n₁₁, n₁₂, n₁₃, n₁₄, n₁₅, n₁₆, n₁₇, n₁₈, n₂₀, n₂₁),
+      simp (n₁, n₂, n₃, n₄, n₅, n₆, n₇, n₈, n₉, n₁₀, n₁₁, n₁₂, n₁₃, n₁₄, n₁₅, n₁₆, n₁₇, n₁₈, n₂₀, n₂₁),
     )
 
 pub record-rows : (h : Held) (k : ℕ) (b : List ℕ) → tested (recordTests h k b) ≡ tested (recordRows h k b)
 unfolding bodyTests commandIn saidBy
 record-rows h k b =
     by-kind (λ n. tested (recordTests h n b) ≡ tested (recordRows h n b)) numbers
-    (refl, (refl, (refl, (refl, (refl, (refl, (refl, (refl, (refl, (refl, (refl, (refl, (refl, (refl, (refl, (refl, (refl, (refl, (refl, tt))))))))))))))))))) k
+    (refl & refl & refl & refl & refl & refl & refl & refl & refl & refl & refl & refl & refl & refl & refl & refl & refl & refl & refl & refl & tt) k
     (λ v. unknown h k b v .0)
 
 -- ---- rows from 3 on
@@ -136,6 +143,7 @@ saidOf (Command.Put m) = Puts m
 saidOf (Command.Take m) = Takes m
 saidOf (Command.Count c) = Sets (Counts c)
 saidOf (Command.Confine t b) = Sets (Confines t b)
+saidOf (Command.Shift c) = Shifts c
 saidOf Command.Restrict = Sets Restricts
 saidOf (Command.Ask q) = Asks q
 
@@ -143,7 +151,7 @@ pub said-command : (k : ℕ) (b : List ℕ) → isUnknown (lengthsOf k) ≡ fals
 unfolding commandIn saidBy lengthsOf
 said-command k b =
     by-kind (λ n. isUnknown (lengthsOf n) ≡ false → saidOf (commandIn n b) ≡ saidBy n b) numbers
-    (same, (same, (same, (same, (same, (same, (same, (same, (same, (same, (same, (same, (same, (same, (same, (same, (same, (same, (same, tt))))))))))))))))))) k
+    (same & same & same & same & same & same & same & same & same & same & same & same & same & same & same & same & same & same & same & same & tt) k
     (λ v e. absurd (true≢false (sym (unknown emptyHeld k b v .1) ∙ e)))
   where
     same : {A : Type 0} {x : Said} → A → x ≡ x

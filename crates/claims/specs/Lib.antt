@@ -5,6 +5,7 @@ pub mod Lives
 pub mod Memory
 pub mod Exact
 pub mod Tells
+pub mod Asked
 pub mod Ascending
 pub mod Kinds
 pub mod Refused
@@ -28,3 +29,4 @@ pub mod OneCall
 pub mod Claimed
 pub mod OneReply
 pub mod ByKind
+pub mod Moved

@@ -35,6 +35,7 @@ use Rattle.claims.specs.Reference.{
   struck,
   counted,
   confined,
+  moved,
   restricted,
   answered,
 }
@@ -100,6 +101,7 @@ by-step (put a) = inl (inl refl)
 by-step (struck a) = inl (inl refl)
 by-step (counted a) = inl (inl refl)
 by-step (confined a) = inl (inl refl)
+by-step (moved a) = inl (inl refl)
 by-step (restricted a) = inl (inl refl)
 by-step (answered {q = q} r a d) = inr (q, a)
 

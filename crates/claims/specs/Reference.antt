@@ -18,12 +18,13 @@ use Rattle.terms.specs.declared.Tested.the-variants as Tested
 use Rattle.terms.specs.Held.{Held, withRules, withMarks, withCounting, withHole, withProfile, emptyHeld}
 use Rattle.terms.specs.Lists.{strike}
 use Rattle.refusals.specs.Refusals.{tested}
+use Rattle.shift.specs.Shifted.{shifted}
 use Rattle.terms.specs.Same.{sameMark}
 use Rattle.terms.specs.Spans.{flat}
 use Rattle.frames.specs.Frames.{lengthField, usedFor}
 use Rattle.decide.specs.Decides.{Yes, No, Spans, Reply, Contradiction, Answered, Decides}
 use Rattle.commands.specs.Buffers.{isShort}
-use Rattle.claims.specs.Table.{Counts, Confines, Restricts, Said, Empties, Adds, Puts, Takes, Sets, Asks, said, table}
+use Rattle.claims.specs.Table.{Counts, Confines, Restricts, Said, Empties, Adds, Puts, Takes, Sets, Shifts, Asks, said, table}
 
 -- 01, The book: what it is fed from a record call
 pub record Fed : Type 0 where
@@ -79,6 +80,8 @@ pub data Book (h : Held) (f : Fed) : Result → Held → Type 0 where
   counted : {c : Counting} → Accepted h f (Sets (Counts c)) → Book h f (plain Answer.Done (recordUsed f)) (withCounting h c)
   -- 02, Slip 5: kind 18 sets the hole, in the place of another
   confined : {t b : ℤ} → Accepted h f (Sets (Confines t b)) → Book h f (plain Answer.Done (recordUsed f)) (withHole h (Part t b))
+  -- 02, Slip 9: kind 20 moves all marks, which stay in their order, and the hole
+  moved : {c : ℤ} → Accepted h f (Shifts c) → Book h f (plain Answer.Done (recordUsed f)) (shifted c h)
   -- 02, Slip 10: kind 21 switches the profile on; where it is on already that changes nothing
   restricted : Accepted h f (Sets Restricts) → Book h f (plain Answer.Done (recordUsed f)) (withProfile h On)
   -- questions change nothing; what is held and the interpretations that satisfy it decide them

@@ -213,6 +213,7 @@ obeyed-accepts h m s = go (eqb (length s) 0) refl
     obeys (Command.Take k) u = done
     obeys (Command.Count c) u = done
     obeys (Command.Confine t b) u = done
+    obeys (Command.Shift c) u = done
     obeys Command.Restrict u = done
     obeys (Command.Ask q) u = subst (λ (x : After). Accepts h s (x .answer)) (sym (replied-is h m u (answer h q))) (reply q)
 

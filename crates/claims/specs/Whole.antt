@@ -26,7 +26,7 @@ use Rattle.commands.specs.Buffers.{Buffers, isShort, short}
 use Rattle.claims.specs.Refused.{two-by-block, end-by-block}
 use Rattle.commands.specs.Code.{enough}
 use Rattle.claims.specs.Kept.{Limited, of-limited, in-range, empty-limited, added-limited, put-limited, counted-limited, confined-limited}
-use Rattle.claims.specs.Kept.{restricted-limited, taken-limited}
+use Rattle.claims.specs.Kept.{shifted-limited, restricted-limited, taken-limited}
 use Rattle.claims.specs.Reference.{Fed, Result, Book, Entered, at-first, after-call}
 use Rattle.claims.specs.Exact.{Holding}
 use Rattle.claims.specs.Lives.{fed, Event, Agrees, finished, recorded, beside, Run-to, from-zeros, by-record}
@@ -45,6 +45,7 @@ accepted h (Command.Put m) b u w p e = put-limited h m w p e
 accepted h (Command.Take m) b u w p e = taken-limited h m w
 accepted h (Command.Count c) b u w p e = counted-limited h c w
 accepted h (Command.Confine t d) b u w p e = confined-limited h t d w p e
+accepted h (Command.Shift c) b u w p e = shifted-limited h c w e
 accepted h Command.Restrict b u w p e = restricted-limited h w e
 accepted h (Command.Ask q) b u w p e = tt
 

@@ -101,6 +101,7 @@ body-small (Command.Put m) t = mark-small (m .atom) (m .top) (m .bottom) (mark-m
 body-small (Command.Take m) t = mark-small (m .atom) (m .top) (m .bottom) (mark-markable m t)
 body-small (Command.Count c) t = (counting-small c, tt)
 body-small (Command.Confine d e) t = ends-small d e
+body-small (Command.Shift c) t = bytes-small 4 (ofZ w32 c)
 body-small Command.Restrict t = tt
 body-small (Command.Ask q) t = absurd t
 

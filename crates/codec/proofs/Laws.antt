@@ -142,6 +142,10 @@ put-little k l at small h = rw (bytes-little k l at small h) (put-same l at k h)
 
 -- signed numbers in k bytes, as many as hold the bits of w
 module _ (w : Width) (k : ℕ) (size : 256 ^ k ≡ 2 ^ bits w) where
+  -- the bytes of a signed number are that number
+  pub signed-read : (z : ℤ) → SFits w z → signedAt w k (bytesOfSigned w k z) 0 ≡ z
+  signed-read z f = ap (λ (n : ℕ). toZ w n) (little-bytes k (ofZ w z) (rw size (ofZ-fits w z f .fits))) ∙ toZ-ofZ w z f
+
   -- a signed number that was laid reads back
   pub signed-put : (l : List ℕ) (at : ℕ) (z : ℤ) → at + k ≤ length l → SFits w z → signedAt w k (put l at (bytesOfSigned w k z)) at ≡ z
   signed-put l at z h f =

@@ -15,7 +15,9 @@ use Rattle.terms.specs.declared.Profile.the-variants.{On}
 use Rattle.terms.specs.Held.{Held, withCounting, withHole, withProfile, emptyHeld}
 use Rattle.refusals.specs.Refusals.{Test, test, tested}
 use Rattle.terms.specs.Otherwise.{onTested}
+use Rattle.shift.specs.Shifted.{shifted}
 use Rattle.state.specs.Changes.{ruleTests, putTests, takeTests, countTests, confineTests, restrictTests, addRule, putMark, takeMark}
+use Rattle.correction.specs.Changes.{shiftTests}
 use Rattle.block.specs.Block.{readHeld, good}
 use Rattle.places.specs.Layout.{SIZE, encode}
 use Rattle.records.specs.declared.Command.{Command}
@@ -51,6 +53,7 @@ heldTests h (Command.Put m) b = putTests h m
 heldTests h (Command.Take m) b = takeTests h m
 heldTests h (Command.Count c) b = countTests h
 heldTests h (Command.Confine t d) b = confineTests h
+heldTests h (Command.Shift c) b = shiftTests h c
 heldTests h Command.Restrict b = restrictTests h
 heldTests h (Command.Ask q) b = []
 
@@ -62,6 +65,7 @@ changedBy h (Command.Put m) b = putMark h m
 changedBy h (Command.Take m) b = takeMark h m
 changedBy h (Command.Count c) b = withCounting h c
 changedBy h (Command.Confine t d) b = withHole h (Part t d)
+changedBy h (Command.Shift c) b = shifted c h
 changedBy h Command.Restrict b = withProfile h On
 changedBy h (Command.Ask q) b = h
 
@@ -73,6 +77,7 @@ onAsked f d (Command.Put m) = d
 onAsked f d (Command.Take m) = d
 onAsked f d (Command.Count c) = d
 onAsked f d (Command.Confine t b) = d
+onAsked f d (Command.Shift c) = d
 onAsked f d Command.Restrict = d
 onAsked f d (Command.Ask q) = f q
 

@@ -74,6 +74,7 @@ fn changed(command: Command, body: &[u8], state: State) -> Change
         Command::Take(mark) => state.take(mark),
         Command::Count(counting) => state.count(counting),
         Command::Confine(top, bottom) => state.confine(top, bottom),
+        Command::Shift(by) => correction::shift(state, by),
         Command::Restrict => state.restrict(),
         Command::Ask(_) => Change {
             tested: Tested::Passed,

@@ -30,7 +30,8 @@ isUnknown (Lengths.Exactly n) = false
 isUnknown (Lengths.AtLeast n) = false
 isUnknown Lengths.Unknown = true
 
--- 01, Records: the length of each kind's records; 02, Slip 2: the stretches; Slip 4: the counting; Slip 5: the hole; Slip 10: the profile
+-- 01, Records: the length of each kind's records; 02, Slip 2: the stretches; Slip 4: the counting; Slip 5: the hole; Slip 9: the shift; Slip 10:
+-- the profile
 unfoldable pub lengthsOf : ℕ → Lengths
 lengthsOf k =
     cond (eqb k 1) (Lengths.Exactly 2)
@@ -51,8 +52,9 @@ lengthsOf k =
     (cond (eqb k 16) (Lengths.Exactly 13)
     (cond (eqb k 17) (Lengths.Exactly 3)
     (cond (eqb k 18) (Lengths.Exactly 10)
+    (cond (eqb k 20) (Lengths.Exactly 6)
     (cond (eqb k 21) (Lengths.Exactly 2)
-    Lengths.Unknown))))))))))))))))))
+    Lengths.Unknown)))))))))))))))))))
 
 -- 01, Where a record is turned away: bytes used are 0 for what is judged before 3, all that is left for 3, else length + 2
 abbrev pub usedFor : ℕ → List ℕ → ℕ

@@ -42,6 +42,7 @@ fn lengths_of(kind: u16) -> Lengths
         16 => Lengths::Exactly(13),
         17 => Lengths::Exactly(3),
         18 => Lengths::Exactly(10),
+        20 => Lengths::Exactly(6),
         21 => Lengths::Exactly(2),
         _ => Lengths::Unknown,
     }

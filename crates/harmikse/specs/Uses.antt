@@ -95,6 +95,7 @@ obeyed-uses h s b (Command.Put m) u w = w
 obeyed-uses h s b (Command.Take m) u w = w
 obeyed-uses h s b (Command.Count c) u w = w
 obeyed-uses h s b (Command.Confine t d) u w = w
+obeyed-uses h s b (Command.Shift c) u w = w
 obeyed-uses h s b Command.Restrict u w = w
 obeyed-uses h s b (Command.Ask q) u w = w
 

@@ -69,6 +69,10 @@ holeTop b = signed32At b 0
 abbrev pub holeBottom : List ℕ → ℤ
 holeBottom b = signed32At b 4
 
+-- 02, Slip 9: the shift
+abbrev pub shiftAt : List ℕ → ℤ
+shiftAt b = signed32At b 0
+
 -- 01, Records: the questions
 abbrev pub labelQuestion : List ℕ → Question
 labelQuestion b = Question.Holds (Has (getD b 0 0) (getD b 1 0)) (signed64At b 2)

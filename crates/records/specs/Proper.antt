@@ -4,15 +4,14 @@ use mathlib.Core.Bool.{Bool, true, false, not, cond, _&&_}
 use mathlib.Core.List.{List, [], _∷_, _++_}
 use Prim.Native.Nat.{ℕ, _+_, _<_}
 use native.Mathlib.Omega.{arith}
-use lib.Dec.{T, eqb}
-use lib.IntN.{ℤ}
+use lib.Dec.{T, eqb, leb→le}
+use lib.IntN.{ℤ, pos, negsuc}
 use lib.Signed.{leZ}
 use lib.ListN.{length, getD}
 use mir.Syntax.{w32}
-use mir.Val.{SFits, toZ, ofZ}
-use mir.ValLaws.{ofZ-fits, toZ-ofZ}
+use mir.Val.{SFits, toZ}
 use Rattle.codec.specs.Bytes.{little, bytes, bytesOfSigned32}
-use Rattle.codec.proofs.Laws.{little-bytes}
+use Rattle.codec.proofs.Laws.{little-bytes, signed-read}
 use Rattle.terms.specs.declared.Counting.{Counting}
 use Rattle.terms.specs.declared.Counting.the-variants.{Old, New}
 use Rattle.terms.specs.declared.Operator.{Operator}
@@ -30,7 +29,7 @@ use Rattle.terms.specs.Countings.{isCounting}
 use Rattle.terms.specs.Counted.{countingNumber}
 use Rattle.terms.specs.Operators.{operatorOf, codeOf, distanceOf, isOperator, orIdentity}
 use Rattle.terms.specs.Readings.{ProperRead, read-proper, operator-read, distance-fits, depth-fits}
-use Rattle.terms.specs.Limits.{isDepth}
+use Rattle.terms.specs.Limits.{NO-TOP, NO-BOTTOM, isDepth}
 use Rattle.terms.specs.Holes.{isHole}
 use Rattle.terms.specs.Held.{isNamed, isRule, isMark, isMarkable, isPlaced, isOrdered, isQuestion}
 use Rattle.terms.specs.Ends.{top-placed, bottom-placed}
@@ -83,7 +82,7 @@ use Rattle.records.specs.Formats.{
 use Rattle.frames.specs.Frames.{allows, lengthsOf, bodyOf}
 use Rattle.records.specs.Frame.{recordBytes, parse-record}
 
--- a command whose names, operator and ends are in range and order; a question's depth may be any, and so may a counting
+-- a command whose names, operator and ends are in range and order; a question's depth may be any, and so may a counting or a shift
 abbrev pub Proper : Command → Bool
 Proper Command.Reset = true
 Proper (Command.Add ρ) = isRule ρ
@@ -91,6 +90,7 @@ Proper (Command.Put m) = isMark m
 Proper (Command.Take m) = isMark m
 Proper (Command.Count c) = true
 Proper (Command.Confine t b) = isHole (Part t b)
+Proper (Command.Shift c) = true
 Proper Command.Restrict = true
 Proper (Command.Ask q) = isQuestion q
 
@@ -216,7 +216,7 @@ body-proper σ k b =
                                     mark-test (linkStretch b) (Command.Take (linkStretch b)) (λ t. t) σ,
                                     (
                                       one-test (isCounting (getD b 0 0)) 7 (Command.Count (countingAt b)) (λ t. tt),
-                                      (hole-test (holeTop b) (holeBottom b), (tt, tt)),
+                                      (hole-test (holeTop b) (holeBottom b), (tt, (tt, tt))),
                                     ),
                                   ),
                                 ),
@@ -251,6 +251,10 @@ parse-proper σ s c b u e = subst ProperParsed e (parsed-proper σ s (framed s))
 
 -- ---- what is in range reads back
 
+-- a number of four bytes, signed
+abbrev pub isSigned32 : ℤ → Bool
+isSigned32 c = leZ NO-TOP c && leZ c NO-BOTTOM
+
 -- the commands that change what is held
 abbrev pub isChange : Command → Bool
 isChange Command.Reset = true
@@ -259,6 +263,7 @@ isChange (Command.Put m) = isMark m
 isChange (Command.Take m) = isMark m
 isChange (Command.Count c) = true
 isChange (Command.Confine t b) = isHole (Part t b)
+isChange (Command.Shift c) = isSigned32 c
 isChange Command.Restrict = true
 isChange (Command.Ask q) = false
 
@@ -296,6 +301,7 @@ changeKind (Command.Put m) = putKind (m .atom)
 changeKind (Command.Take m) = takeKind (m .atom)
 changeKind (Command.Count c) = 17
 changeKind (Command.Confine t b) = 18
+changeKind (Command.Shift c) = 20
 changeKind Command.Restrict = 21
 changeKind (Command.Ask q) = 0
 
@@ -306,6 +312,7 @@ changeBody (Command.Put m) = markBody (m .atom) (m .top) (m .bottom)
 changeBody (Command.Take m) = markBody (m .atom) (m .top) (m .bottom)
 changeBody (Command.Count c) = countingNumber c ∷ []
 changeBody (Command.Confine t b) = bytesOfSigned32 t ++ bytesOfSigned32 b
+changeBody (Command.Shift c) = bytesOfSigned32 c
 changeBody Command.Restrict = []
 changeBody (Command.Ask q) = []
 
@@ -343,7 +350,11 @@ operator-in o x y t = ap (operatorOf (codeOf o)) (little-bytes 4 (distanceOf o) 
 
 -- a depth from its bytes
 depth-read : (z : ℤ) → SFits w32 z → toZ w32 (little 4 (bytesOfSigned32 z) 0) ≡ z
-depth-read z f = ap (toZ w32) (little-bytes 4 (ofZ w32 z) (ofZ-fits w32 z f .fits)) ∙ toZ-ofZ w32 z f
+depth-read = signed-read w32 4 refl
+
+signed-fits : (z : ℤ) → T (isSigned32 z) → SFits w32 z
+signed-fits (pos n) t = record { sfits = omega (arith, leb→le n 2_147_483_647 (and-both (leZ NO-TOP (pos n)) (leZ (pos n) NO-BOTTOM) t .1)) }
+signed-fits (negsuc n) t = record { sfits = omega (arith, leb→le n 2_147_483_647 (and-both (leZ NO-TOP (negsuc n)) (leZ (negsuc n) NO-BOTTOM) t .0)) }
 
 -- a mark of its three parts
 abbrev pub markWith : Atom → ℤ → ℤ → Mark
@@ -408,6 +419,10 @@ module _ (σ : Settings) where
       (λ i. decodedAs (tested (holeTests (e i) (f i))) (Command.Confine (e i) (f i)))
       ∙ hole-passes (isDepth t && isDepth d) (leZ t d) (Command.Confine t d) h
 
+  shift-decodes : (c : ℤ) → T (isSigned32 c) → decodeBody σ 20 (bytesOfSigned32 c) ≡ Decoded.Command (Command.Shift c)
+  unfolding little bytes bodyTests commandIn
+  shift-decodes c h = ap (λ z. Decoded.Command (Command.Shift z)) (depth-read c (signed-fits c h))
+
   change-decodes : (c : Command) → T (isChange c) → decodeBody σ (changeKind c) (changeBody c) ≡ Decoded.Command c
   unfolding bodyTests commandIn
   change-decodes Command.Reset t = refl
@@ -416,6 +431,7 @@ module _ (σ : Settings) where
   change-decodes (Command.Take m) t = take-decodes (m .atom) (m .top) (m .bottom) t
   change-decodes (Command.Count c) t = count-decodes c
   change-decodes (Command.Confine t b) h = hole-decodes t b h
+  change-decodes (Command.Shift c) h = shift-decodes c h
   change-decodes Command.Restrict t = refl
   change-decodes (Command.Ask q) t = absurd t
 
@@ -446,6 +462,10 @@ fitting-hole : (t d : ℤ) → Fitting 18 (bytesOfSigned32 t ++ bytesOfSigned32 
 unfolding lengthsOf bytes
 fitting-hole t d = record { allowed = tt; small = omega arith; short = omega arith }
 
+fitting-shift : (c : ℤ) → Fitting 20 (bytesOfSigned32 c)
+unfolding lengthsOf bytes
+fitting-shift c = record { allowed = tt; small = omega arith; short = omega arith }
+
 fitting : (c : Command) → T (isChange c) → Fitting (changeKind c) (changeBody c)
 unfolding lengthsOf
 fitting Command.Reset t = record { allowed = tt; small = omega arith; short = omega arith }
@@ -454,6 +474,7 @@ fitting (Command.Put m) t = fitting-put (m .atom) (m .top) (m .bottom)
 fitting (Command.Take m) t = fitting-take (m .atom) (m .top) (m .bottom)
 fitting (Command.Count c) t = record { allowed = tt; small = omega arith; short = omega arith }
 fitting (Command.Confine t b) h = fitting-hole t b
+fitting (Command.Shift c) h = fitting-shift c
 fitting Command.Restrict t = record { allowed = tt; small = omega arith; short = omega arith }
 fitting (Command.Ask q) t = absurd t
 

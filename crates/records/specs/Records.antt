@@ -38,6 +38,7 @@ use Rattle.records.specs.Formats.{
   isNoCounting,
   holeTop,
   holeBottom,
+  shiftAt,
   labelQuestion,
   linkQuestion,
   spansQuestion,
@@ -79,7 +80,7 @@ pub record Kind : Type 0 where
 abbrev pub kind : ℕ → (Settings → List ℕ → List Test) → (List ℕ → Command) → Kind
 kind n t c = record { number = n; tests = t; command = c }
 
--- 01, Records: the table; 02, Slip 2: the stretches; Slip 4: the counting; Slip 5: the hole; Slip 10: the profile
+-- 01, Records: the table; 02, Slip 2: the stretches; Slip 4: the counting; Slip 5: the hole; Slip 9: the shift; Slip 10: the profile
 abbrev pub kinds : List Kind
 kinds =
     kind 1 (λ σ b. []) (λ b. Command.Reset)
@@ -100,6 +101,7 @@ kinds =
     ∷ kind 16 (λ σ b. markTests σ (linkStretch b)) (λ b. Command.Take (linkStretch b))
     ∷ kind 17 (λ σ b. countingTests b) (λ b. Command.Count (countingAt b))
     ∷ kind 18 (λ σ b. holeTests (holeTop b) (holeBottom b)) (λ b. Command.Confine (holeTop b) (holeBottom b))
+    ∷ kind 20 (λ σ b. []) (λ b. Command.Shift (shiftAt b))
     ∷ kind 21 (λ σ b. []) (λ b. Command.Restrict)
     ∷ []
 

@@ -9,6 +9,7 @@ ghost use Rattle.terms.specs.Held.{isNamed};
 ghost use Rattle.refusals.specs.Refusals.{test, tested as testedBy};
 ghost use Rattle.terms.specs.Otherwise.{orElse};
 ghost use Rattle.records.specs.declared.Command.the-variants as To;
+ghost use Rattle.records.specs.declared.Decoded.the-variants as Read;
 ghost use Rattle.records.specs.Records.{markTests, asRule, asOperatorRule, asPut, asTake, asCounting, asHole, asQuestion};
 ghost use Rattle.records.specs.Records.{decodedAs, decodeBody};
 ghost use Rattle.records.specs.Formats.{
@@ -21,6 +22,7 @@ ghost use Rattle.records.specs.Formats.{
   linkMark,
   labelStretch,
   linkStretch,
+  shiftAt,
   labelQuestion,
   linkQuestion,
   spansQuestion,
@@ -43,6 +45,7 @@ pub enum Command {
     Take(Mark),
     Count(Counting),
     Confine(i32, i32),
+    Shift(i32),
     Restrict,
     Ask(Question),
 }
@@ -233,6 +236,14 @@ fn confine(body: &[u8]) -> Decoded
     decoded_as(places.or(order), Command::Confine(top, bottom))
 }
 
+// The amount of a shift. Whether a depth leaves its range by it, what is held decides.
+fn shift(body: &[u8]) -> Decoded
+    requires { ⌜ length (now body) ≡ 4 ⌝ }
+    ensures { λ r. ⌜ r ≡ Read.Command (To.Shift (shiftAt (now (body .entry)))) ⌝ }
+{
+    Decoded::Command(Command::Shift(codec::i32_at(body, 0)))
+}
+
 // The table of kinds: decoders. The frame lets no other kind come here.
 pub fn decode_body(settings: Settings, kind: u16, body: &[u8]) -> Decoded
     requires { ⌜ T (allows (lengthsOf kind) (length (now body) + 2)) ⌝ }
@@ -257,6 +268,7 @@ pub fn decode_body(settings: Settings, kind: u16, body: &[u8]) -> Decoded
         16 => take(settings, link_stretch(body)),
         17 => count(body),
         18 => confine(body),
+        20 => shift(body),
         21 => Decoded::Command(Command::Restrict),
         _ => Decoded::Refused(4),
     }

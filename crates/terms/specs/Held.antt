@@ -102,6 +102,13 @@ operatorIn (Both A B C) = Between
 operatorIn (Link o r s) = o
 operatorIn (Via r A B) = Between
 
+-- a rule with what f makes of its operator in its place
+abbrev pub turn : (Operator → Operator) → Rule → Rule
+turn f (Label op A B) = Label (f op) A B
+turn f (Both A B C) = Both A B C
+turn f (Link op r s) = Link (f op) r s
+turn f (Via r A B) = Via r A B
+
 -- 01, Records: the labels and link kinds of a rule
 abbrev pub isNamed : Rule → Bool
 isNamed (Label op A B) = isLeft A && isConcluded B

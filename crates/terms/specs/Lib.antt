@@ -6,6 +6,7 @@ pub mod Otherwise
 pub mod Countings
 pub mod Operators
 pub mod Readings
+pub mod Sums
 pub mod Answers
 pub mod Pairs
 pub mod Same

@@ -66,6 +66,12 @@ enum-known-command-5 c = search needs
 confine-requires : tie.Need-confine-requires
 confine-requires c κs = search needs
 
+enum-known-command-6 : tie.Need-enum-known-command-6
+enum-known-command-6 c = search needs
+
+shift-requires : tie.Need-shift-requires
+shift-requires c κs = search needs
+
 enum-told-2 : tie.Need-enum-told-2
 enum-told-2 c = search needs
 
@@ -120,14 +126,25 @@ returns-6 c =
     as-changed (heldOf (start .args .state)) (start .args .body .now) (start .args .command) _ (known .command5 .given .1)
     (rw (toZ-ofZ (top-fits (c .before)), toZ-ofZ (bottom-fits (c .before))) at (c .confine .ensures))
 
+-- the shift's amount
+shift-fits : (c : tie.After-known-told6) → SFits w32 (c .before .command6 .given .0 .0)
+shift-fits c = search needs
+
 returns-7 : tie.Need-returns-7
 returns-7 c =
+    let known = c .before .before in
+    let start = known .before .before .before in
+    as-changed (heldOf (start .args .state)) (start .args .body .now) (start .args .command) _ (known .command6 .given .1)
+    (rw (toZ-ofZ (shift-fits (c .before))) at (c .shift .ensures))
+
+returns-8 : tie.Need-returns-8
+returns-8 c =
     let told = c .before in
     let start = told .before .before .before in
     as-changed (heldOf (start .args .state)) (start .args .body .now) (start .args .command) _ (told .enum-told2 .given .1) (c .restrict .ensures)
 
-returns-8 : tie.Need-returns-8
-returns-8 c =
+returns-9 : tie.Need-returns-9
+returns-9 c =
     let start = c .before .before .before in
     as-changed (heldOf (start .args .state)) (start .args .body .now) (start .args .command) _ (c .enum-told3 .given .1)
     (record { said = refl; held = refl; counts = start .pre .0 .counts })
@@ -148,6 +165,8 @@ changed-spec =
     count-requires
     enum-known-command-5
     confine-requires
+    enum-known-command-6
+    shift-requires
     enum-told-2
     restrict-requires
     enum-told-3
@@ -158,4 +177,5 @@ changed-spec =
     returns-5
     returns-6
     returns-7
-    returns-8)
+    returns-8
+    returns-9)

@@ -25,7 +25,7 @@ use Rattle.commands.proofs.work.Tie as tie
 
 -- what is not a question is a change
 unasked :
-    (h : Held) (b : List ℕ) (u : ℕ) (c : Command) → OneOf (0 ∷ 1 ∷ 2 ∷ 3 ∷ 4 ∷ 5 ∷ 6 ∷ []) (tagOf the-type c) →
+    (h : Held) (b : List ℕ) (u : ℕ) (c : Command) → OneOf (0 ∷ 1 ∷ 2 ∷ 3 ∷ 4 ∷ 5 ∷ 6 ∷ 7 ∷ []) (tagOf the-type c) →
     judged h (Parsed.Record c b u) ≡ onTested (Changed (changedBy h c b) u) (λ n. Refused n u) (tested (heldTests h c b))
 unasked h b u Command.Reset t = refl
 unasked h b u (Command.Add ρ) t = refl
@@ -33,18 +33,20 @@ unasked h b u (Command.Put m) t = refl
 unasked h b u (Command.Take m) t = refl
 unasked h b u (Command.Count k) t = refl
 unasked h b u (Command.Confine d e) t = refl
+unasked h b u (Command.Shift c) t = refl
 unasked h b u Command.Restrict t = refl
 unasked h b u (Command.Ask q) t = absurd (none t)
   where
     -- a question's tag is none of these
-    none : OneOf (0 ∷ 1 ∷ 2 ∷ 3 ∷ 4 ∷ 5 ∷ 6 ∷ []) 7 → ⊥
+    none : OneOf (0 ∷ 1 ∷ 2 ∷ 3 ∷ 4 ∷ 5 ∷ 6 ∷ 7 ∷ []) 8 → ⊥
     none (inl e) = omega arith
     none (inr (inl e)) = omega arith
     none (inr (inr (inl e))) = omega arith
     none (inr (inr (inr (inl e)))) = omega arith
     none (inr (inr (inr (inr (inl e))))) = omega arith
     none (inr (inr (inr (inr (inr (inl e)))))) = omega arith
-    none (inr (inr (inr (inr (inr (inr e)))))) = omega arith
+    none (inr (inr (inr (inr (inr (inr (inl e))))))) = omega arith
+    none (inr (inr (inr (inr (inr (inr (inr e))))))) = omega arith
 
 enum-known-command : tie.Need-enum-known-command
 enum-known-command c = search needs

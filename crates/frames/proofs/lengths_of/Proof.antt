@@ -82,9 +82,14 @@ returns-19 c = simp (c .match .keys19)
 
 returns-20 : tie.Need-returns-20
 unfolding lengthsOf
-returns-20 c =
+returns-20 c = simp (c .match .keys20)
+
+returns-21 : tie.Need-returns-21
+unfolding lengthsOf
+returns-21 c =
     let m = c .match .rest in
     simp (
+      ne-eqb _ _ (m .0 .0 .0 .0 .0 .0 .0 .0 .0 .0 .0 .0 .0 .0 .0 .0 .0 .0 .0 .1),
       ne-eqb _ _ (m .0 .0 .0 .0 .0 .0 .0 .0 .0 .0 .0 .0 .0 .0 .0 .0 .0 .0 .1),
       ne-eqb _ _ (m .0 .0 .0 .0 .0 .0 .0 .0 .0 .0 .0 .0 .0 .0 .0 .0 .0 .1),
       ne-eqb _ _ (m .0 .0 .0 .0 .0 .0 .0 .0 .0 .0 .0 .0 .0 .0 .0 .0 .1),
@@ -129,4 +134,5 @@ lengths-of-spec =
     returns-17
     returns-18
     returns-19
-    returns-20)
+    returns-20
+    returns-21)

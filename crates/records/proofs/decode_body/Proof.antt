@@ -136,6 +136,12 @@ confine-requires c κs =
     let start = c .before .before in
     omega (arith, sized (length (start .args .body .now)) (start .args .kind) 10 (start .pre) (ap lengthsOf (c .match .keys18)))
 
+shift-requires : tie.Need-shift-requires
+unfolding lengthsOf
+shift-requires c κs =
+    let start = c .before .before in
+    omega (arith, sized (length (start .args .body .now)) (start .args .kind) 6 (start .pre) (ap lengthsOf (c .match .keys19)))
+
 returns : tie.Need-returns
 unfolding bodyTests commandIn
 returns c = simp (c .match .keys1)
@@ -226,13 +232,18 @@ returns-18 c = simp (c .before .match .keys18) (c .confine .ensures)
 
 returns-19 : tie.Need-returns-19
 unfolding bodyTests commandIn
-returns-19 c = simp (c .match .keys19)
+returns-19 c = simp (c .before .match .keys19) (c .shift .ensures)
 
 returns-20 : tie.Need-returns-20
+unfolding bodyTests commandIn
+returns-20 c = simp (c .match .keys20)
+
+returns-21 : tie.Need-returns-21
 unfolding lengthsOf
-returns-20 c =
+returns-21 c =
     let m = c .match .rest in
     absurd (simp (
+      ne-eqb _ _ (m .0 .0 .0 .0 .0 .0 .0 .0 .0 .0 .0 .0 .0 .0 .0 .0 .0 .0 .0 .1),
       ne-eqb _ _ (m .0 .0 .0 .0 .0 .0 .0 .0 .0 .0 .0 .0 .0 .0 .0 .0 .0 .0 .1),
       ne-eqb _ _ (m .0 .0 .0 .0 .0 .0 .0 .0 .0 .0 .0 .0 .0 .0 .0 .0 .0 .1),
       ne-eqb _ _ (m .0 .0 .0 .0 .0 .0 .0 .0 .0 .0 .0 .0 .0 .0 .0 .0 .1),
@@ -283,6 +294,7 @@ decode-body-spec =
     take-requires-4
     count-requires
     confine-requires
+    shift-requires
     returns
     returns-2
     returns-3
@@ -302,4 +314,5 @@ decode-body-spec =
     returns-17
     returns-18
     returns-19
-    returns-20)
+    returns-20
+    returns-21)
