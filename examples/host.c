@@ -2,7 +2,8 @@
  * A host program: lends its memory to the library, feeds it a small section record by record and prints what it says.
  * The section is the worked example of the specification, then a question beside the records, calls with null pointers
  * where the length is 0, a mark with top and bottom, a rule list by the new counting, a hole with two ends, a pad of
- * two wells, one of them contradictory, and at last a rule list that is held to the print profile.
+ * two wells, one of them contradictory, a rule list that is held to the print profile, and at last a stretch correction
+ * by which all depths move.
  */
 #include <harmikse.h>
 
@@ -50,6 +51,13 @@ static void give_hole(int32_t top, int32_t bottom)
     begin(18, 8);
     put_number((uint32_t)top, 4);
     put_number((uint32_t)bottom, 4);
+}
+
+/* All marks, and the hole where there is one, so much deeper; higher where it is negative. */
+static void shift_depths(int32_t shift)
+{
+    begin(20, 4);
+    put_number((uint32_t)shift, 4);
 }
 
 /* From here on rules are held to the print profile. */
@@ -293,6 +301,26 @@ static void write_profile(void)
     query_label(0, 2, 99);
 }
 
+/*
+ * After a stretch correction everything lies 25 cm deeper: one record moves all marks, and the spans go along. ABOVE
+ * still has no end at the top. The last shift would take the marks below 200,000, so it is refused and nothing moves.
+ */
+static void write_shift(void)
+{
+    reset();
+    add_within(11, 1, 1);
+    add_operator(3, 1, 2);
+    put_label(0, 1, 100);
+    put_label(0, 1, 109);
+    ask_spans(0, 1);
+    ask_spans(0, 2);
+    shift_depths(25);
+    ask_spans(0, 1);
+    ask_spans(0, 2);
+    shift_depths(200000);
+    ask_spans(0, 1);
+}
+
 /* Hands over what is left of the stream, record by record; fails where a record is not used. */
 static int feed(void)
 {
@@ -339,5 +367,8 @@ int main(void)
     if (feed() != 0)
         return 1;
     write_profile();
+    if (feed() != 0)
+        return 1;
+    write_shift();
     return feed();
 }

@@ -1,7 +1,7 @@
 //! Writes stored test inputs of the program and what it has to print.
 //! `corpus wells FOLDER`: a hundred wells with points, fifty with points and stretches behind them,
 //! thirty whose rule lists name a counting, thirty that are holes with two ends, thirty pads of
-//! several wells, and thirty whose sections are printed;
+//! several wells, thirty whose sections are printed, and thirty whose cable zero moves;
 //! `corpus limits FOLDER`: inputs at the size limit.
 
 mod limits;
@@ -12,7 +12,7 @@ use model::listing::{listing, MAX_INPUT};
 use std::path::Path;
 use well::{Size, Well};
 
-const WELLS: u64 = 270;
+const WELLS: u64 = 300;
 /// From this well on a caliper gives stretches.
 const CALIPER: u64 = 100;
 /// From this well on rule lists name a counting, and there are two sections at least.
@@ -24,6 +24,9 @@ const PADS: u64 = 210;
 /// From this well on most sections switch the print profile on, and every third well is drilled in
 /// a hole.
 const PROFILES: u64 = 240;
+/// From this well on the cable zero moves. Every second well is drilled in a hole, every third is
+/// printed, and every fifth is a pad.
+const SHIFTS: u64 = 270;
 
 /// Whether sections are drilled in a hole with two ends.
 fn holes(number: u64) -> bool {
@@ -31,7 +34,24 @@ fn holes(number: u64) -> bool {
         ..HOLES => false,
         HOLES..PADS => true,
         PADS..PROFILES => number.is_multiple_of(2),
-        _ => number.is_multiple_of(3),
+        PROFILES..SHIFTS => number.is_multiple_of(3),
+        _ => number.is_multiple_of(2),
+    }
+}
+
+/// Whether several wells share a section.
+fn pads(number: u64) -> bool {
+    match number {
+        SHIFTS.. => number.is_multiple_of(5),
+        _ => (PADS..PROFILES).contains(&number),
+    }
+}
+
+/// Whether sections switch the print profile on.
+fn profiles(number: u64) -> bool {
+    match number {
+        SHIFTS.. => number.is_multiple_of(3),
+        _ => number >= PROFILES,
     }
 }
 
@@ -59,9 +79,10 @@ fn size(number: u64) -> Size {
         countings,
         holes: holes(number),
         wells: 0,
-        profiles: number >= PROFILES,
+        profiles: profiles(number),
+        shifts: number >= SHIFTS,
     };
-    match (PADS..PROFILES).contains(&number) {
+    match pads(number) {
         false => with_limits(large, size),
         true => with_limits(large, pad(&mut dice, size)),
     }

@@ -4,9 +4,11 @@
 //! ends, they are given before the marks, which may go on past its bottom. On a pad the items are
 //! shared out to several wells, and links between two of them are a mistake that is taken back.
 //! Where sections are printed, the profile is switched on before the rules or behind them, and
-//! questions are asked at the outermost marked depths.
+//! questions are asked at the outermost marked depths. Where the cable zero moves, all that is held
+//! is shifted now and then, and the same is asked before and behind.
 
 mod printed;
+mod shifted;
 
 use dice::Dice;
 use model::frame::{bytes, framed, wide_bytes};
@@ -64,6 +66,8 @@ pub struct Size {
     pub wells: u8,
     /// Whether sections are printed; nothing of it is drawn where they aren't.
     pub profiles: bool,
+    /// Whether the cable zero moves; nothing of it is drawn where it doesn't.
+    pub shifts: bool,
 }
 
 pub struct Well {
@@ -146,6 +150,9 @@ impl Well {
             self.marks.clear();
         }
         self.settings();
+        if self.size.shifts {
+            self.shift_early();
+        }
         match self.size.profiles {
             true => self.printed_rules(),
             false => {
@@ -160,11 +167,17 @@ impl Well {
         if early {
             self.flood();
         }
-        (0..self.size.marks).for_each(|_| self.drill());
+        match self.size.shifts {
+            true => self.drill_and_correct(),
+            false => (0..self.size.marks).for_each(|_| self.drill()),
+        }
         if self.size.wells > 0 && !early {
             self.flood();
         }
         self.report();
+        if self.size.shifts {
+            self.go_to_the_ends();
+        }
     }
 
     /// The hole and the counting, where they are given.
@@ -345,6 +358,7 @@ impl Well {
     fn mistake(&mut self) {
         let mark = self.dice.pick(&self.marks);
         let sorts = match self.size {
+            Size { shifts: true, .. } => 32,
             Size { profiles: true, .. } => 28,
             Size { holes: true, .. } => 24,
             Size {

@@ -166,6 +166,13 @@ fn move_end(dice: &mut Dice, block: &mut [u8]) {
     block[at..at + 4].copy_from_slice(&end.to_le_bytes());
 }
 
+/// Moves an end of a mark a little out of range, from where a shift could bring it back.
+fn push_out(dice: &mut Dice, block: &mut [u8]) {
+    let (at, more) = (some_mark(dice, block), dice.between(1, 9) as i32);
+    let (place, end) = dice.pick(&[(4, SHALLOWEST - more), (8, DEEPEST + more)]);
+    block[at + place..at + place + 4].copy_from_slice(&end.to_le_bytes());
+}
+
 /// Lays a hole over what is held: around all marks, with one end a depth too short, out of range,
 /// the wrong way round, or with its ends and no hole.
 fn lay_hole(dice: &mut Dice, block: &mut [u8]) {
@@ -242,6 +249,7 @@ pub fn spoil(dice: &mut Dice, block: &mut [u8]) {
         10 | 11 => block[COUNTING_AT] = dice.pick(&[0, 1, 2, 255]),
         12..=17 => spoil_hole(dice, block),
         18..=22 => spoil_profile(dice, block),
+        23 => push_out(dice, block),
         _ => {
             let at = likely(dice, block);
             let now = block[at];

@@ -133,7 +133,7 @@ impl Source {
     }
 
     /// What an operator that goes beyond its marks concludes of a held one, if there is such.
-    fn concluded_fact(&mut self, held: &Held) -> Fact {
+    pub fn concluded_fact(&mut self, held: &Held) -> Fact {
         let all: Vec<Start> = starts(held).filter(|s| s.op.code != WITHIN).collect();
         match all.is_empty() {
             true => self.asked_fact(held),

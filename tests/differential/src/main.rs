@@ -2,6 +2,8 @@
 //! Arguments: seconds to run (default 100), the first seed (default 1) and how often each refusal
 //! and each combination has to come up at least (default 1).
 
+mod alike;
+mod alike_cases;
 mod cases;
 mod combined;
 mod damage;
@@ -13,9 +15,13 @@ mod holes;
 mod joined_cases;
 mod joined_seen;
 mod plan;
+mod plans;
 mod profile_cases;
 mod profile_seen;
 mod profiles;
+mod shift_cases;
+mod shift_seen;
+mod shifts;
 mod source;
 mod stream;
 mod tally;

@@ -23,7 +23,7 @@ impl Source {
     }
 
     /// A rule that its operator, or EVERY on its left, may take out of the profile.
-    fn edge_rule(&mut self) -> Rule {
+    pub fn edge_rule(&mut self) -> Rule {
         let (a, b) = (self.every_or_label(), self.every_or_label());
         let (r, s) = (self.kind(), self.kind());
         let (op, c) = (self.operator(), self.concluded());
@@ -37,7 +37,7 @@ impl Source {
 
     /// What a held rule concludes of a mark, or may conclude where something is marked, or what is
     /// marked itself.
-    fn likely_fact(&mut self, held: &Held) -> Fact {
+    pub fn likely_fact(&mut self, held: &Held) -> Fact {
         let marked = self.mark_or_held(held, 100).fact;
         let rule = self.rule_or_held(held, 100);
         let concluded: Vec<Fact> = starts(held).map(|start| start.concluded).collect();

@@ -37,6 +37,11 @@ pub struct Source {
     pub plan: Plan,
     /// Marks meet at few depths, so that rules find their premises together.
     pub pool: Vec<i32>,
+    /// The same as they were drawn, and how far they went along with shifts.
+    pub drawn: Vec<i32>,
+    pub along: i64,
+    /// The shift that last changed what is held, if nothing else did since.
+    pub shifted: Option<i32>,
     /// The items of the mark that a record was last about.
     pub touched: [u8; 2],
     /// The ends of the chain that a pad starts with.
@@ -50,10 +55,14 @@ impl Source {
         while (pool.len() as u64) < plan.depths {
             pool.insert(dice.between(plan.top, last) as i32);
         }
+        let drawn: Vec<i32> = pool.into_iter().collect();
         Source {
             dice,
             plan,
-            pool: pool.into_iter().collect(),
+            pool: drawn.clone(),
+            drawn,
+            along: 0,
+            shifted: None,
             touched: [0, 0],
             far: [0, 15],
         }
@@ -96,7 +105,7 @@ impl Source {
 
     /// An end of a mark.
     pub fn depth(&mut self) -> i32 {
-        let anywhere = self.dice.below(self.plan.width as u64) as i64 + self.plan.top;
+        let anywhere = self.dice.below(self.plan.width as u64) as i64 + self.top();
         let usual = match self.dice.percent(self.plan.fresh) {
             true => anywhere as i32,
             false => self.dice.pick(&self.pool),
@@ -107,7 +116,7 @@ impl Source {
     /// Questions stand on marks, beside them, between them and far from them.
     pub fn asked_depth(&mut self) -> i64 {
         let marked = i64::from(self.dice.pick(&self.pool));
-        let between = self.plan.top - 5 + self.dice.below(self.plan.width as u64 + 10) as i64;
+        let between = self.top() - 5 + self.dice.below(self.plan.width as u64 + 10) as i64;
         let usual = self.dice.pick(&[marked, marked - 1, marked + 1, between]);
         let low = i64::from(i32::MIN);
         let edges = [i64::MIN, i64::MAX, low, low - 1, 1 << 31, 1 << 32, 200_001];
@@ -235,6 +244,13 @@ impl Source {
     }
 
     fn some_record(&mut self, held: &Held) -> Record {
+        let behind = self.dice.percent(self.plan.behind);
+        if let Some(by) = self.shifted.filter(|_| behind) {
+            return self.behind_shift(held, by);
+        }
+        if self.dice.percent(self.plan.shifts) {
+            return self.shift(held);
+        }
         if self.dice.percent(self.plan.pads) {
             return self.pad(held);
         }

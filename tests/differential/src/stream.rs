@@ -1,5 +1,6 @@
 //! One stream of calls, made to the archive and to the model alike.
 
+use crate::alike::Alike;
 use crate::cases::Seen;
 use crate::damage::{damage, lengths, refill, spoil, with_rest, WHOLE};
 use crate::joined_seen::{Asked, By};
@@ -10,6 +11,7 @@ use dice::Dice;
 use model::block::{decode, encode, read, SIZE};
 use model::frame;
 use model::held::Held;
+use model::moved::Move;
 use model::service::{self, Lent, Memory};
 use model::terms::{Answer, Fact, Record};
 use panel::{Empty, Numbers};
@@ -44,6 +46,15 @@ impl Call {
             (_, Some(Record::Query(fact, depth))) => Some((fact, By::Query(depth))),
             _ => None,
         }
+    }
+}
+
+/// The same question as a record.
+fn asked((fact, by): (Fact, By)) -> Record {
+    match (fact, by) {
+        (fact, By::Query(depth)) => Record::Query(fact, depth),
+        (Fact::Label { item, label }, _) => Record::Spans { item, label },
+        (Fact::Link { .. }, _) => unreachable!("spans of a link"),
     }
 }
 
@@ -102,9 +113,41 @@ impl Stream {
                 self.model.block.clone_from(&block);
                 self.real.block.clone_from(&block);
             }
-            None if answer == Answer::Done => self.last = call.record(),
-            None => {}
+            None if answer == Answer::Done => self.changed(call.record()),
+            None => self.ask_moved(&call, answer, tally)?,
         }
+        Ok(())
+    }
+
+    /// Remembers what last changed what is held; the usual depths go along with a shift.
+    fn changed(&mut self, record: Option<Record>) {
+        self.last = record;
+        self.source.shifted = match record {
+            Some(Record::Shift(by)) => Some(by),
+            _ => None,
+        };
+        let by = self.source.shifted.unwrap_or(0);
+        self.source.go_along(by);
+    }
+
+    /// Asks the archive an answered question again, now and then, with the section as it is and
+    /// moved.
+    fn ask_moved(&mut self, call: &Call, answer: Answer, tally: &mut Tally) -> Result<(), String> {
+        let refused = matches!(answer, Answer::Refused(_));
+        let question = call.question().filter(|_| !refused);
+        let Some(question) = question.filter(|_| self.source.dice.percent(self.source.plan.alike))
+        else {
+            return Ok(());
+        };
+        let held = decode(&self.model.block).expect("a good block");
+        let by = self.source.amount(&held);
+        let way = self.source.dice.pick(&[Move::Mirror, Move::Shift(by)]);
+        let question = self.source.asked_again(&held, asked(question));
+        let asked = Alike::ask(&self.real, held, way, question).map_err(|difference| {
+            let block = &self.model.block;
+            format!("asked again, {difference}\n{call:x?}\nblock: {block:x?}")
+        })?;
+        asked.iter().for_each(|alike| tally.see_alike(alike));
         Ok(())
     }
 

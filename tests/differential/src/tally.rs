@@ -1,11 +1,14 @@
 //! How often each answer, each refusal, each case and each combination came up.
 
+use crate::alike::Alike;
+use crate::alike_cases::{ALIKE_CASES, WAYS};
 use crate::cases::{Case, Seen, CASES};
 use crate::combined::Combined;
 use crate::hole_cases::HOLE_CASES;
 use crate::joined_cases::JOINED_CASES;
 use crate::joined_seen::Asked;
 use crate::profile_cases::PROFILE_CASES;
+use crate::shift_cases::SHIFT_CASES;
 use model::terms::{Answer, REFUSALS, REFUSAL_PLACES};
 
 const NAMES: [&str; 7] = [
@@ -28,11 +31,14 @@ pub struct Tally {
     refusals: [u64; REFUSAL_PLACES],
     cases: Vec<u64>,
     joined: Vec<u64>,
+    /// By the way that a section was moved.
+    alike: [[u64; ALIKE_CASES.len()]; WAYS.len()],
     pub combined: Combined,
 }
 
 fn all_cases() -> impl Iterator<Item = &'static Case> {
-    CASES.iter().chain(&HOLE_CASES).chain(&PROFILE_CASES)
+    let of_settings = HOLE_CASES.iter().chain(&PROFILE_CASES);
+    CASES.iter().chain(of_settings).chain(&SHIFT_CASES)
 }
 
 /// Names with their numbers, parted by commas.
@@ -71,6 +77,16 @@ impl Tally {
         }
     }
 
+    /// A question that was asked with a section as it is and moved.
+    pub fn see_alike(&mut self, alike: &Alike) {
+        let Some(way) = alike.way() else {
+            return;
+        };
+        for ((_, fits), count) in ALIKE_CASES.iter().zip(&mut self.alike[way]) {
+            *count += u64::from(fits(alike));
+        }
+    }
+
     /// The refusals in the order in which they are tested.
     fn refusals(&self) -> impl Iterator<Item = (String, u64)> + '_ {
         let counted = |number: u32| (format!("{number}:"), self.refusals[number as usize]);
@@ -82,7 +98,17 @@ impl Tally {
         let joined = JOINED_CASES.iter().map(|(name, _)| name);
         let counts = self.cases.iter().chain(&self.joined).copied();
         let names = names.chain(joined).map(|name| format!("{name}:"));
-        names.zip(counts)
+        names.zip(counts).chain(self.alike())
+    }
+
+    /// The cases of questions asked twice, for each way.
+    fn alike(&self) -> impl Iterator<Item = (String, u64)> + '_ {
+        let ways = WAYS.iter().zip(&self.alike);
+        ways.flat_map(|(way, counts)| {
+            let names = ALIKE_CASES.iter();
+            let names = names.map(move |(name, _)| format!("{name}, {way}:"));
+            names.zip(counts.iter().copied())
+        })
     }
 
     pub fn print(&self) {

@@ -24,6 +24,7 @@ fn length_of(kind: u16) -> Option<usize> {
         12 => 4,
         17 => 3,
         18 => 10,
+        20 => 6,
         _ => return None,
     };
     Some(length)
@@ -149,6 +150,7 @@ pub fn read(frame: &Frame) -> Record {
         16 => Record::Take(stretch(link_fact(body), &body[3..])),
         17 => Record::Counting(body[0]),
         18 => Record::Hole(hole(body)),
+        20 => Record::Shift(i32::from_le_bytes(four(body, 0))),
         _ => Record::Profile,
     }
 }
@@ -202,6 +204,7 @@ pub fn bytes(record: &Record) -> Vec<u8> {
         Record::Spans { item, label } => framed(12, &[*item, *label]),
         Record::Counting(value) => framed(17, &[*value]),
         Record::Hole(hole) => framed(18, &ends_bytes(hole.ends())),
+        Record::Shift(by) => framed(20, &by.to_le_bytes()),
         Record::Profile => framed(21, &[]),
     }
 }

@@ -45,12 +45,14 @@ impl Held {
     }
 
     /// The first of refusals 15, 16, 17, 20 and 9 to 12 that applies. Only kind 17 knows 15, and it
-    /// has no depth for 8 and 14, which are tested in between.
+    /// has no depth for 8 and 14, which are tested in between. Kind 20 knows 8 alone, by the depths
+    /// that are held.
     pub fn refusal(&self, record: &Record) -> Option<u32> {
         match record {
             Record::Counting(_) => (!self.rules.is_empty()).then_some(15),
             Record::Hole(_) => (!self.marks.is_empty()).then_some(17),
             Record::Profile => (!self.in_profile()).then_some(20),
+            Record::Shift(by) => self.shifted(*by).is_none().then_some(8),
             Record::Rule(rule) if self.profile && !rule.in_profile() => Some(20),
             Record::Rule(rule) if self.rules.contains(rule) => Some(9),
             Record::Rule(_) => (self.rules.len() >= MAX_RULES).then_some(11),
@@ -83,6 +85,7 @@ impl Held {
             Record::Counting(value) => self.counting = Counting::named(*value).expect("1 or 2"),
             Record::Hole(hole) => self.hole = Some(*hole),
             Record::Profile => self.profile = true,
+            Record::Shift(by) => *self = self.shifted(*by).expect("depths in range"),
             Record::Query(..) | Record::Spans { .. } => {}
         }
     }

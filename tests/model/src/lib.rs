@@ -8,6 +8,7 @@ pub mod frame;
 pub mod held;
 pub mod joined;
 pub mod listing;
+pub mod moved;
 pub mod service;
 pub mod short;
 pub mod tables;

@@ -77,6 +77,11 @@ pub fn hole(top: i32, bottom: i32) -> Record {
     Record::Hole(Hole { top, bottom })
 }
 
+/// A shift of all marks and the hole.
+pub fn shift(by: i32) -> Record {
+    Record::Shift(by)
+}
+
 /// The memory after these records, from a block whose tail is filled.
 pub fn after(records: &[Record]) -> Memory {
     let lent = Lent {

@@ -183,10 +183,15 @@ pub enum Record {
     Put(Mark),
     Take(Mark),
     Query(Fact, i64),
-    Spans { item: u8, label: u8 },
+    Spans {
+        item: u8,
+        label: u8,
+    },
     Counting(u8),
     Hole(Hole),
     Profile,
+    /// How much deeper all marks and the hole lie.
+    Shift(i32),
 }
 
 impl Record {
@@ -204,7 +209,8 @@ impl Record {
 
     fn names(&self) -> bool {
         match *self {
-            Record::Reset | Record::Counting(_) | Record::Hole(_) | Record::Profile => true,
+            Record::Reset | Record::Counting(_) | Record::Hole(_) => true,
+            Record::Profile | Record::Shift(_) => true,
             Record::Rule(rule) => rule_names(rule),
             Record::Put(mark) | Record::Take(mark) => fact_names(mark.fact, 1, NEVER - 1),
             Record::Query(fact, _) => fact_names(fact, EVERY, NEVER),

@@ -167,7 +167,7 @@ fn lengths_and_kinds() {
     }
     assert_eq!(listing::answers(&[1, 0, 21, 0]), ["refused 3"]);
     assert_eq!(listing::answers(&[2, 0, 21]), ["refused 3"]);
-    for kind in [0, 19, 20, 22, 23, 0x0115, 0x1500, u16::MAX] {
+    for kind in [0, 19, 22, 23, 0x0115, 0x1500, u16::MAX] {
         assert_eq!(said(kind, &[]), ["refused 4"]);
     }
 }

@@ -1,7 +1,8 @@
 //! Streams as text: one record on a line, ` => ` and the answer that it must get.
 //! `name WORD NUMBER` gives an item, label or link kind a name; `#` starts a comment.
 //! A mark at one depth is put and taken by the kinds 6 to 9, `from TOP to BOTTOM` by 13 to 16;
-//! `counting NUMBER` is kind 17, `hole from TOP to BOTTOM` kind 18, `profile` kind 21.
+//! `counting NUMBER` is kind 17, `hole from TOP to BOTTOM` kind 18, `shift NUMBER` kind 20,
+//! `profile` kind 21.
 
 use model::frame::{bytes, wide_bytes};
 use model::short::*;
@@ -40,9 +41,10 @@ impl Line<'_> {
         u8::try_from(number).map_err(|_| format!("{number} does not fit a byte"))
     }
 
+    /// A depth of a mark or a hole, or a shift.
     fn depth(&mut self) -> Result<i32, String> {
         let number = self.number()?;
-        i32::try_from(number).map_err(|_| format!("{number} is no depth of a mark or a hole"))
+        i32::try_from(number).map_err(|_| format!("{number} does not fit 4 bytes"))
     }
 
     fn operator(&mut self) -> Result<Operator, String> {
@@ -105,6 +107,7 @@ impl Line<'_> {
             "spans" => spans(self.small()?, self.small()?),
             "counting" => counting(self.small()?),
             "hole" => self.ends().map(|(top, bottom)| hole(top, bottom))?,
+            "shift" => shift(self.depth()?),
             "profile" => Record::Profile,
             other => return Err(format!("{other} is no record")),
         })

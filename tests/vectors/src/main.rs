@@ -6,6 +6,7 @@ mod hole;
 mod joined;
 mod profile;
 mod script;
+mod shift;
 mod stretches;
 
 use model::terms::REFUSALS;
@@ -77,6 +78,14 @@ const CASES: &[fn(&mut Script)] = &[
     profile::full_list,
     profile::byte_of_the_block,
     profile::poked_profile,
+    cases::the_end,
+    shift::nothing,
+    shift::moving,
+    shift::ends_of_the_range,
+    shift::all_or_none,
+    shift::with_a_hole,
+    shift::questions,
+    shift::refused,
     cases::the_end,
 ];
 

@@ -26,7 +26,8 @@ pub fn switching(script: &mut Script) {
     script.call(&Lent::EXACT, &[]);
 }
 
-/// Kind 21 by every number but 20 that it can be refused with, and kinds that are none.
+/// Kind 21 by every number but 20 that it can be refused with, and what is none: kind 20 without its
+/// shift, and other kinds.
 fn refused_each(script: &mut Script) {
     let short = Lent {
         links: Lent::EXACT.links - 1,

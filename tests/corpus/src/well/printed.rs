@@ -106,12 +106,13 @@ impl Well {
         match sort {
             24 => self.send(Record::Profile),
             25 => self.stream.extend(framed(21, &[1])),
-            _ => self.send(rule),
+            26 | 27 => self.send(rule),
+            sort => self.shift_mistake(sort),
         }
     }
 
     /// What is held after all records so far.
-    fn held(&self) -> Held {
+    pub(super) fn held(&self) -> Held {
         let (mut held, mut rest) = (Held::default(), &self.stream[..]);
         while !rest.is_empty() {
             let used = match frame::split(rest) {
