@@ -1,9 +1,9 @@
 /*
  * Harmikse: the depth label service, as a C library.
  *
- * The caller lends four pieces of memory and the bytes of a record; the library holds nothing between calls, allocates
- * nothing and has no global state. It needs memcpy and memset, and nothing else of the C library. The archive is for
- * x86-64.
+ * The caller lends memory, up to four pieces of it, and the bytes of a record; the library holds nothing between
+ * calls, allocates nothing and has no global state. It needs memcpy and memset, and nothing else of the C library.
+ * The archive is for x86-64.
  *
  *   block   the state: every rule accepted since the last RESET, every mark accepted since then and not taken, the
  *           counting, the hole and the print profile. All zeros is the empty state. Keep it from call to call and write
@@ -21,13 +21,15 @@
  * Each is a pointer and a length in elements. Lengths may be larger than the sizes below: what lies behind is never
  * written. What tables and span buffer hold before a call plays no part; they need no clearing.
  *
- * Ownership: all memory stays the caller's, and is used during the call alone. Of block, labels, links, spans and used
- * none may overlap another, and none may overlap the input. Pointers are aligned for their type. A pointer may be NULL
- * where its length is 0, and nowhere else: nothing is read or written there then. used is never NULL.
+ * Ownership: all memory stays the caller's, and is used during the call alone. Of block, labels, links, spans, used and
+ * total none may overlap another, and none may overlap the input or the price lines. Pointers are aligned for their
+ * type. A pointer may be NULL where its length is 0, and nowhere else: nothing is read or written there then. used and
+ * total are never NULL.
  *
  * Threads: calls on different memory are independent and may run at once. Memory that is lent to a call belongs to that
- * call until it returns, and to no other call, with one exception: harmikse_spans only reads the block, so calls of it
- * may share a block while no harmikse_record has it, each with tables and span buffer of its own.
+ * call until it returns, and to no other call, with one exception: harmikse_spans and harmikse_charge only read the
+ * block, so calls of these may share a block while no harmikse_record has it, each with tables of its own, and with a
+ * span buffer or a total of its own; calls of harmikse_charge may share price lines too.
  *
  * Records: a 2-byte length, a 2-byte kind, the body. Every number is little-endian; signed ones are two's complement.
  * The length field counts kind and body and not itself, so that a record has length + 2 bytes. Fields are one byte
@@ -114,11 +116,20 @@
  * question is about, neither before nor after they are put or taken, alter no answer to it, list limits aside. Both
  * tables show all items, whatever is joined: bit 63 of a label entry says which items have NEVER, and where.
  *
+ * Charge: zone reports are billed by length. harmikse_charge takes an item and price lines: a label, its price in cents
+ * for each started metre, and its least price in cents for a span. Each span of a line's label, as SPANS tells them,
+ * costs the larger of price times started metres and least price; a span from t to b has b - t + 1 centimetres, so
+ * that 1 to 100 of them are one started metre and 101 are two. The total is the sum over all spans of all lines: a
+ * label that is listed twice counts twice, a label without spans costs nothing, and no lines come to 0. Marks of items
+ * that are joined to the item neither before nor after, the profile, a shift, and reversing the line with ABOVE and
+ * BELOW exchanged alter no charge.
+ *
  * Stack: leave 176 KiB for a call (HARMIKSE_STACK_BYTES).
  *
  * Refusals leave all lent memory unchanged, and so does end. Only an answer of done changes the block; RESET makes its
- * first HARMIKSE_BLOCK_BYTES all zeros. After a question (yes, no, contradiction, spans) both tables show what the held
- * marks and rules derive; after anything else they are as lent. Only an answer of spans writes the span buffer.
+ * first HARMIKSE_BLOCK_BYTES all zeros. After a question (yes, no, contradiction, spans) and after a charge (total,
+ * open, contradiction) both tables show what the held marks and rules derive; after anything else they are as lent.
+ * Only an answer of spans writes the span buffer, and only a total the number for it.
  */
 #ifndef HARMIKSE_H
 #define HARMIKSE_H
@@ -147,6 +158,11 @@ extern "C" {
 #define HARMIKSE_NO_TOP INT32_MIN
 #define HARMIKSE_NO_BOTTOM INT32_MAX
 
+/* Numbers of a price line, the most lines of a charge, and the highest price in cents. */
+#define HARMIKSE_LINE_NUMBERS 3
+#define HARMIKSE_CHARGE_LINES 16
+#define HARMIKSE_MOST_PRICE 1000000
+
 /* Room on the stack for a call. */
 #define HARMIKSE_STACK_BYTES 180224
 
@@ -164,9 +180,16 @@ enum harmikse_answer {
     HARMIKSE_REFUSED = 6        /* value: one of the numbers below */
 };
 
-/* Where several apply, the first in the order 1 to 7, 15, 8, 14, 16, 17, 20, 9 to 12 is given; end is after 2. */
+/* What harmikse_charge answers: these two, whose value is 0, or contradiction or refused as above. */
+enum harmikse_charge_answer {
+    HARMIKSE_TOTAL = 7,         /* the sum in cents is in *total */
+    HARMIKSE_OPEN = 8           /* a listed label has a span without an end, on one side or on both; also at price 0 */
+};
+
+/* Where several apply, the first in the order 1 to 7, 15, 8, 14, 16, 17, 20, 9 to 13 is given; end is after 2. */
 enum harmikse_refusal {
-    HARMIKSE_SHORT_MEMORY = 1,   /* block, a table or span buffer too short */
+    /* block, a table or span buffer too short, or a number of price line numbers that is no multiple of 3 */
+    HARMIKSE_SHORT_MEMORY = 1,
     HARMIKSE_BAD_BLOCK = 2,      /* a block that no run of records from all zeros leads to */
     HARMIKSE_BAD_FRAME = 3,      /* 1 to 3 bytes left, or a length under 2 or past the input */
     HARMIKSE_UNKNOWN_KIND = 4,
@@ -179,6 +202,7 @@ enum harmikse_refusal {
     HARMIKSE_NOT_HELD = 10,      /* a mark to take; what is only derived is not held */
     HARMIKSE_LIST_FULL = 11,     /* 128 rules or 256 marks */
     HARMIKSE_DEPTHS_FULL = 12,   /* a mark with which tops and bottoms would be at more than 96 depths */
+    HARMIKSE_BAD_LINES = 13,     /* more than 16 price lines, or a price or least price over 1,000,000 */
     HARMIKSE_BAD_STRETCH = 14,   /* a mark's or a hole's top deeper than its bottom; tested after 8 and before 16 */
     HARMIKSE_RULES_HELD = 15,    /* kind 17 while a rule is held; tested after 7 and before 8 */
     HARMIKSE_OUTSIDE_HOLE = 16,  /* a mark to put that reaches outside the hole; tested after 14 and before 17 */
@@ -210,6 +234,27 @@ uint32_t harmikse_spans(const uint8_t *block, size_t block_len,
                         uint8_t *links, size_t links_len,
                         int32_t *spans, size_t spans_len,
                         uint32_t item, uint32_t label);
+
+/*
+ * Charges an item by price lines, HARMIKSE_LINE_NUMBERS numbers each (label, price, least price). lines_len counts
+ * the numbers, so it is three times the number of lines; lines may be NULL where it is 0. No span buffer is lent.
+ * Refused with 1, 2, 6 for an item over 15 or a label over 63 in any line, all lines being read, or 13 for more than
+ * 16 lines or a price over 1,000,000, in this order. Otherwise contradiction where a question about the item is
+ * answered so, with the same value; else open where a listed label has a span without an end, which in a hole none
+ * has; else a total. *total is written only with a total. The tables end as after harmikse_spans. The block is never
+ * written. With two lines:
+ *
+ *     static const uint32_t lines[2][HARMIKSE_LINE_NUMBERS] = {{1, 275, 400}, {2, 30625, 50000}};
+ *     uint64_t cents;
+ *     r = harmikse_charge(block, sizeof block, labels, HARMIKSE_LABEL_ENTRIES, links, sizeof links,
+ *                         &lines[0][0], 2 * HARMIKSE_LINE_NUMBERS, 0, &cents);
+ */
+uint32_t harmikse_charge(const uint8_t *block, size_t block_len,
+                         uint64_t *labels, size_t labels_len,
+                         uint8_t *links, size_t links_len,
+                         const uint32_t *lines, size_t lines_len,
+                         uint32_t item,
+                         uint64_t *total);
 
 /*
  * A short example: a mark of label 1 on item 0 at 100 cm is put, and its spans are asked for.

@@ -2,7 +2,7 @@
 use mathlib.Core.Path.{_≡_, refl, sym, ap, _∙_, subst}
 use mathlib.Core.Logic.{_⊎_, inl, inr}
 use mathlib.Core.Bool.{Bool, true, false, cond, _&&_}
-use mathlib.Core.List.{List, [], _∷_, _++_, List·Memᴰ·head, List·Memᴰ·tail, List·Memᴰ·cases-cons, List·Memᴰ·not-nil}
+use mathlib.Core.List.{List, [], _∷_, List·Memᴰ·head, List·Memᴰ·tail, List·Memᴰ·cases-cons, List·Memᴰ·not-nil}
 use Prim.Native.Nat.{ℕ, _≤_}
 use native.Mathlib.Omega.{arith}
 use lib.Dec.{T, leb, leb→le}
@@ -11,7 +11,6 @@ use Rattle.terms.specs.declared.Tested.the-variants as Tested
 use Rattle.refusals.specs.Refusals.{rank, Test, tested}
 use Rattle.refusals.specs.Joining.{clash}
 use Rattle.terms.specs.Tests.{and-both}
-use Rattle.terms.specs.Otherwise.{orElse}
 use Rattle.terms.specs.Held.{_∈_}
 use Rattle.claims.specs.Table.{Ascends}
 
@@ -19,17 +18,6 @@ use Rattle.claims.specs.Table.{Ascends}
 
 pub same-number : {n k : ℕ} → Tested.Refused n ≡ Tested.Refused k → n ≡ k
 same-number e = cc
-
--- of two lists in a row the first decides where one of its tests applies
-pub tested-append : (xs ys : List Test) → tested (xs ++ ys) ≡ orElse (tested xs) (tested ys)
-tested-append [] ys = refl
-tested-append (t ∷ xs) ys = go (t .applies) (tested-append xs ys)
-  where
-    go :
-        (b : Bool) → tested (xs ++ ys) ≡ orElse (tested xs) (tested ys) →
-        cond b (Tested.Refused (t .number)) (tested (xs ++ ys)) ≡ orElse (cond b (Tested.Refused (t .number)) (tested xs)) (tested ys)
-    go true e = refl
-    go false e = e
 
 -- a number that is given is that of a test that applies
 pub tested-applies : (ts : List Test) (n : ℕ) → tested ts ≡ Tested.Refused n → (t : Test) × (t ∈ ts) × T (t .applies) × (t .number ≡ n)

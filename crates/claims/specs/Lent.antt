@@ -40,10 +40,10 @@ use Rattle.claims.specs.Kept.{Limited, limited, few-cuts}
 use Rattle.claims.specs.Life.{Stays-limited, judged-limited}
 use Rattle.claims.specs.Whole.{laws}
 
-untouched : {A : Type 0} (n : ℕ) (old : List A) → Written-in n old old
+pub untouched : {A : Type 0} (n : ℕ) (old : List A) → Written-in n old old
 untouched n old = record { same-length = refl; same-tail = refl }
 
-written : {A : Type 0} (n : ℕ) (p old : List A) → length p ≡ n → n ≤ length old → Written-in n old (p ++ drop n old)
+pub written : {A : Type 0} (n : ℕ) (p old : List A) → length p ≡ n → n ≤ length old → Written-in n old (p ++ drop n old)
 written n p old e l = record { same-length = length-append p (drop n old) ∙ omega (arith, e, length-drop n old); same-tail = drop-at p (drop n old) n e }
 
 all-kept : (a : Answer) (m : Buffers) → pairCount a ≡ 0 → Lent-kept a m m

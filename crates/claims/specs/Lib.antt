@@ -4,6 +4,7 @@ pub mod Beside
 pub mod Lives
 pub mod Memory
 pub mod Exact
+pub mod Charging
 pub mod Tells
 pub mod Asked
 pub mod Ascending
@@ -13,6 +14,7 @@ pub mod Kept
 pub mod Total
 pub mod Told
 pub mod Booked
+pub mod ChargeKeeps
 pub mod Life
 pub mod Reach
 pub mod Writing
@@ -30,3 +32,4 @@ pub mod Claimed
 pub mod OneReply
 pub mod ByKind
 pub mod Moved
+pub mod Charge

@@ -47,7 +47,8 @@ use Rattle.commands.specs.Call.{
 }
 use Rattle.commands.specs.Buffers.{Buffers, After, after, isShort, short}
 use Rattle.commands.specs.Code.{enough}
-use Rattle.claims.specs.Beside.{Beside-call, spans-of, blockAfter}
+use Rattle.claims.specs.Beside.{Beside-call, spans-of, charge-of, tablesOf, blockAfter}
+use Rattle.claims.specs.ChargeKeeps.{charge-block}
 use Rattle.claims.specs.Lives.{
   Lending,
   lentTo,
@@ -101,6 +102,7 @@ beside-keeps (spans-of a A) m =
     let question = Question.Spans a A in
     lent-block-kept h m (judged h (parsedBody (decodedAs (tested (questionTests (h .settings) question)) (Command.Ask question)) [] 0)) (tested (lentTests m))
     (asked-block h m question (tested (questionTests (h .settings) question)))
+beside-keeps (charge-of a ns) m = charge-block (tablesOf m) a ns
 
 -- the laws of the layout and of records, proved where those are
 pub record Laws : Type 0 where

@@ -14,7 +14,8 @@ use Rattle.terms.specs.declared.Question.{Question}
 use Rattle.terms.specs.declared.Tested.{Tested}
 use Rattle.terms.specs.declared.Tested.the-variants as Tested
 use Rattle.refusals.specs.Refusals.{order, rank, Test, test, tested}
-use Rattle.refusals.specs.Ranks.{rank-ordered, rank-number, rank-lower}
+use Rattle.refusals.specs.Joining.{tested-append}
+use Rattle.refusals.specs.Ranks.{thirteen-after-twelve, rank-ordered, rank-number, rank-lower}
 use Rattle.terms.specs.Tests.{differ}
 use Rattle.terms.specs.Otherwise.{onTested, orElse}
 use Rattle.terms.specs.Held.{_∈_, Held}
@@ -33,7 +34,6 @@ use Rattle.commands.specs.Code.{replied-is}
 use Rattle.commands.specs.Call.{Outcome, Refused, Ended, heldTests, obey, judged, effect, call}
 use Rattle.claims.specs.Ascending.{
   same-number,
-  tested-append,
   tested-applies,
   tested-some,
   wider,
@@ -251,7 +251,7 @@ refused-ranked m s n e = tested-in (rank 1) (rank 12) (rows m s) (rows-ascend m 
 
 -- so it is in the order
 pub refused-ordered : (m : Buffers) (s : List ℕ) (n : ℕ) → call m s .answer ≡ Answer.Refused n → n ∈ order
-refused-ordered m s n e = rank-ordered n (refused-ranked m s n e)
+refused-ordered m s n e = rank-ordered n (omega (arith, thirteen-after-twelve, refused-ranked m s n e))
 
 -- a refusal's number is that of a row that applies, and by rank the lowest of those
 pub refused-lowest :
@@ -267,7 +267,7 @@ pub refused-lowest-number :
 refused-lowest-number m s n e o t i a =
     let w = refused-lowest m s n e in
     let own = in-range (rank 1) (rank 12) (rows m s) (rows-ascend m s) t i .1 in
-    rank-lower n (t .number) o (rank-number (t .number) own .0) (w .1 t i a)
+    rank-lower n (t .number) o (rank-number (t .number) (omega (arith, thirteen-after-twelve, own)) .0) (w .1 t i a)
 
 -- where a row applies, the call is refused
 pub applies-refused : (m : Buffers) (s : List ℕ) (t : Test) → t ∈ rows m s → T (t .applies) → (n : ℕ) × (call m s .answer ≡ Answer.Refused n)

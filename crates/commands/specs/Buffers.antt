@@ -29,9 +29,13 @@ pub record After : Type 0 where
 abbrev pub after : Answer → ℕ → Buffers → After
 after a u m = record { answer = a; used = u; buffers = m }
 
+-- 01, Where a record is turned away: block or a table too short, or what else is lent to a call
+abbrev pub isShortOr : Bool → ℕ → ℕ → ℕ → Bool
+isShortOr other b t k = ltb b SIZE || (ltb t LABEL-ENTRIES || (ltb k LINK-ENTRIES || other))
+
 -- 01, Where a record is turned away: block, a table or span buffer too short
 abbrev pub isShort : ℕ → ℕ → ℕ → ℕ → Bool
-isShort b t k s = ltb b SIZE || (ltb t LABEL-ENTRIES || (ltb k LINK-ENTRIES || ltb s SPAN-NUMBERS))
+isShort b t k s = isShortOr (ltb s SPAN-NUMBERS) b t k
 
 abbrev pub short : Buffers → Bool
 short m = isShort (length (m .block)) (length (m .labels)) (length (m .links)) (length (m .spans))

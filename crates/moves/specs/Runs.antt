@@ -37,7 +37,7 @@ use Rattle.moves.specs.Motions.{order, Clear, clear, beside}
 use Rattle.moves.specs.Steady.{Steady, Finite, not-gone, change-finite}
 use Rattle.moves.specs.Ends.{Allows, covers-allows, beyond, beyond-beside, Before, end-in, beyond-out}
 
--- ---- an end, moved: still missing, or finite before and after
+-- ---- an end, moved: still missing, or not missing before and finite after
 
 data End-moved (f : ℤ → ℤ) (τ κ : Side) (e : ℤ) : ℤ → Type 0 where
   missing : e ≡ gone τ → End-moved f τ κ e (gone κ)

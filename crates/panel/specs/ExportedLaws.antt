@@ -22,7 +22,10 @@ use Rattle.decide.specs.Decides.{Spans}
 use Rattle.commands.specs.Call.{judged, onLent, spanCall}
 use Rattle.commands.specs.Buffers.{Buffers, After, after}
 use Rattle.claims.specs.SpanRecord.{span-as-record}
-use Rattle.panel.specs.Exported.{exported, packed, returned}
+use Rattle.charges.specs.declared.Charge.{Charge}
+use Rattle.charges.specs.Charges.{totalOr}
+use Rattle.service.specs.Tables.{Tables, After-charge, afterCharge}
+use Rattle.panel.specs.Exported.{exported, packed, returned, packedCharge, returnedCharge, exportedCharge}
 
 -- an answer packed, beside what the call leaves
 pub packs : {r u : ℕ} {m : Buffers} (a : Answer) (x : After) → r ≡ packed a → after a u m ≡ x → returned r u m ≡ exported x
@@ -78,3 +81,10 @@ pub span-packs :
 span-packs {r = r} {u = u} {m′ = m′} m a A x p e =
     let w : after x u m′ ≡ spanCall m a A = e ∙ spans-clamped m a A in
     ap (λ n. returned r n m′) (sym (ap (λ (y : After). y .used) w ∙ span-bytes m a A)) ∙ packs x _ p w
+
+-- ---- a charge
+
+-- a charge packed, beside the total and what the call leaves
+pub charge-packs : {r t : ℕ} {m : Tables} (before : ℕ) (c : Charge) (x : After-charge) → r ≡ packedCharge c → t ≡ totalOr before c → afterCharge c m ≡ x →
+    returnedCharge r t m ≡ exportedCharge before x
+charge-packs {m = m} before c x p q e = (λ i. returnedCharge (p i) (q i) m) ∙ ap (exportedCharge before) e

@@ -19,7 +19,7 @@ use terms::wide;
 use verdicts::Clash;
 
 // Both tables from what is held, and its cuts.
-fn derive(state: State, labels: &mut [u64], links: &mut [u8], cuts: &mut [i32; CUTS]) -> usize
+pub fn derive(state: State, labels: &mut [u64], links: &mut [u8], cuts: &mut [i32; CUTS]) -> usize
     requires { ⌜ Held-state state × (LABEL-ENTRIES ≤ length (now labels)) × (LINK-ENTRIES ≤ length (now links)) × (length (now cuts) ≡ CUTS) ⌝ }
     ensures { λ r. ⌜ Tables-derived (heldOf state) (now (labels .entry)) (now (links .entry)) (now (labels .exit)) (now (links .exit))
         (now (cuts .entry)) (now (cuts .exit)) r ⌝ }
@@ -33,7 +33,7 @@ fn derive(state: State, labels: &mut [u64], links: &mut [u8], cuts: &mut [i32; C
 }
 
 // What the tables clash at, of the items that the question concerns.
-fn clash_of(state: State, labels: &[u64], question: Question) -> Clash
+pub fn clash_of(state: State, labels: &[u64], question: Question) -> Clash
     requires { ⌜ Held-state state × (LABEL-ENTRIES ≤ length (now labels)) × T (isQuestion question) ⌝ }
     ensures { λ r. ⌜ r ≡ clashIn (concernsB (heldOf state .marks) question) (now (labels .entry)) ⌝ }
 {

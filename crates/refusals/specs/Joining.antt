@@ -1,12 +1,12 @@
 -- Tests as the code joins them, and as the table has them. Assumes nothing.
 use mathlib.Core.Path.{_≡_, refl}
 use mathlib.Core.Bool.{Bool, true, false, not, cond}
-use mathlib.Core.List.{[], _∷_}
+use mathlib.Core.List.{List, [], _∷_, _++_}
 use Prim.Native.Nat.{ℕ}
 use Rattle.terms.specs.declared.Tested.the-variants as Tested
 use Rattle.terms.specs.Tests.{differ}
 use Rattle.terms.specs.Otherwise.{orElse}
-use Rattle.refusals.specs.Refusals.{test, tested}
+use Rattle.refusals.specs.Refusals.{Test, test, tested}
 
 -- what passes is not refused
 pub clash : {A : Type 0} {n : ℕ} → Tested.Passed ≡ Tested.Refused n → A
@@ -34,3 +34,14 @@ three-tests true true true l m n = refl
 three-tests true true false l m n = refl
 three-tests true false r l m n = refl
 three-tests false q r l m n = refl
+
+-- of two lists in a row the first decides where one of its tests applies
+pub tested-append : (xs ys : List Test) → tested (xs ++ ys) ≡ orElse (tested xs) (tested ys)
+tested-append [] ys = refl
+tested-append (t ∷ xs) ys = go (t .applies) (tested-append xs ys)
+  where
+    go :
+        (b : Bool) → tested (xs ++ ys) ≡ orElse (tested xs) (tested ys) →
+        cond b (Tested.Refused (t .number)) (tested (xs ++ ys)) ≡ orElse (cond b (Tested.Refused (t .number)) (tested xs)) (tested ys)
+    go true e = refl
+    go false e = e

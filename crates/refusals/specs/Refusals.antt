@@ -8,7 +8,7 @@ use Rattle.terms.specs.declared.Tested.the-variants as Tested
 
 -- 01, Where a record is turned away: the numbers in the order in which they are judged, with 02's where 02 puts them
 abbrev pub order : List ℕ
-order = 1 ∷ 2 ∷ 3 ∷ 4 ∷ 5 ∷ 6 ∷ 7 ∷ 15 ∷ 8 ∷ 14 ∷ 16 ∷ 17 ∷ 20 ∷ 9 ∷ 10 ∷ 11 ∷ 12 ∷ []
+order = 1 ∷ 2 ∷ 3 ∷ 4 ∷ 5 ∷ 6 ∷ 7 ∷ 15 ∷ 8 ∷ 14 ∷ 16 ∷ 17 ∷ 20 ∷ 9 ∷ 10 ∷ 11 ∷ 12 ∷ 13 ∷ []
 
 abbrev pub rankIn : List ℕ → ℕ → ℕ
 rankIn [] n = 1

@@ -1,4 +1,4 @@
-// The service: one record, or one question beside the records.
+// The service: one record, or one question or charge beside the records.
 ghost use mathlib.Core.Path.{_≡_};
 ghost use mathlib.Core.List.{[]};
 ghost use lib.ListN.{length, drop};
@@ -6,9 +6,12 @@ ghost use Rattle.state.specs.State.{heldOf};
 ghost use Rattle.records.specs.Records.{asQuestion, parsedBody};
 ghost use Rattle.questions.specs.Code.{Held-state};
 ghost use Rattle.commands.specs.Call.{judged, effect, call, spanCall};
-ghost use Rattle.commands.specs.Buffers.{lent, isShort, afterOf};
+ghost use Rattle.commands.specs.Buffers.{lent, isShortOr, afterOf};
 ghost use Rattle.commands.specs.Code.{Enough};
+ghost use Rattle.service.specs.Tables.{tables, afterCharge};
+ghost use Rattle.service.specs.Charging.{chargeCall};
 ghost use Rattle.service.specs.Code.{Lent-as};
+use charges::Charge;
 use commands::Reply;
 use reader::Input;
 use records::Decoded;
@@ -23,9 +26,9 @@ pub struct Lent {
     pub state: State,
 }
 
-// Whether one of the four lent lengths is too short.
-fn is_short(block: usize, labels: usize, links: usize, spans: usize) -> bool
-    ensures { λ r. ⌜ r ≡ isShort block labels links spans ⌝ }
+// Whether block or a table is too short, or what else is lent to a call.
+fn is_short(other: bool, block: usize, labels: usize, links: usize) -> bool
+    ensures { λ r. ⌜ r ≡ isShortOr other block labels links ⌝ }
 {
     if block < block::SIZE {
         return true;
@@ -36,14 +39,14 @@ fn is_short(block: usize, labels: usize, links: usize, spans: usize) -> bool
     if links < terms::LINK_ENTRIES {
         return true;
     }
-    spans < terms::SPAN_NUMBERS
+    other
 }
 
-// Lent memory, which every call is judged by first.
-fn lent_state(block: &[u8], labels: usize, links: usize, spans: usize) -> Lent
-    ensures { λ r. ⌜ Lent-as (now (block .entry)) labels links spans r ⌝ }
+// Lent memory, which every call is judged by first; `other` says whether what else is lent to the call is too short.
+fn lent_state(other: bool, block: &[u8], labels: usize, links: usize) -> Lent
+    ensures { λ r. ⌜ Lent-as other (now (block .entry)) labels links r ⌝ }
 {
-    if is_short(block.len(), labels, links, spans) {
+    if is_short(other, block.len(), labels, links) {
         return Lent {
             tested: Tested::Refused(1),
             state: State::empty(),
@@ -69,7 +72,8 @@ pub fn record_at(
     ensures { λ r. ⌜ afterOf r (now (block .exit)) (now (labels .exit)) (now (links .exit)) (now (spans .exit))
         ≡ call (lent (now (block .entry)) (now (labels .entry)) (now (links .entry)) (now (spans .entry))) (drop at (now (input .entry))) ⌝ }
 {
-    let found = lent_state(block, labels.len(), links.len(), spans.len());
+    let few_spans = spans.len() < terms::SPAN_NUMBERS;
+    let found = lent_state(few_spans, block, labels.len(), links.len());
     let tested = found.tested;
     let state = found.state;
     let settings = state.settings;
@@ -145,7 +149,8 @@ pub fn spans_of(
     ensures { λ r. ⌜ afterOf r (now (block .entry)) (now (labels .exit)) (now (links .exit)) (now (spans .exit))
         ≡ spanCall (lent (now (block .entry)) (now (labels .entry)) (now (links .entry)) (now (spans .entry))) item label ⌝ }
 {
-    let found = lent_state(block, labels.len(), links.len(), spans.len());
+    let few_spans = spans.len() < terms::SPAN_NUMBERS;
+    let found = lent_state(few_spans, block, labels.len(), links.len());
     let tested = found.tested;
     let state = found.state;
     match tested {
@@ -158,5 +163,26 @@ pub fn spans_of(
             Question::Spans(item, label),
         ),
         Tested::Refused(number) => commands::refused(number, 0),
+    }
+}
+
+// The charge of an item by price lines, three numbers each, asked beside the records: the block is read alone, and no span is kept.
+pub fn charge(
+    block: &[u8],
+    labels: &mut [u64],
+    links: &mut [u8],
+    lines: &[u32],
+    item: u32,
+) -> Charge
+    ensures { λ r. ⌜ afterCharge r (tables (now (block .entry)) (now (labels .exit)) (now (links .exit)))
+        ≡ chargeCall (tables (now (block .entry)) (now (labels .entry)) (now (links .entry))) item (now (lines .entry)) ⌝ }
+{
+    let inside_line = lines.len() % 3 != 0;
+    let found = lent_state(inside_line, block, labels.len(), links.len());
+    let tested = found.tested;
+    let state = found.state;
+    match tested.or(charges::judged(item, lines)) {
+        Tested::Passed => charging::bill(state, labels, links, item as u8, lines),
+        Tested::Refused(number) => Charge::Refused(number),
     }
 }

@@ -2,15 +2,15 @@
 use mathlib.Core.Path.{_≡_, refl, sym, ap, _∙_}
 use mathlib.Core.Bool.{Bool, true, false, true≢false}
 use mathlib.Core.List.{List, [], _∷_, _++_, append-nil}
-use Prim.Native.Nat.{ℕ, pred, _+_, _-_, _*_, _≤_, _<_}
+use Prim.Native.Nat.{ℕ, pred, _+_, _*_, _≤_, _<_}
 use native.Mathlib.Omega.{arith}
 use native.Mathlib.Numerals.{add-one}
 use lib.IntN.{ℤ}
 use lib.ListN.{length, take, drop, set, take-append-drop}
 use lib.Seq.{sets-eq}
 use Rattle.terms.specs.Spans.{Run, flat}
-use Rattle.line.specs.Cuts.{top-from, bottom-to}
 use Rattle.spans.specs.declared.Progress.{Progress}
+use Rattle.spans.specs.Runs.{stretchOf}
 use Rattle.spans.specs.Code.{laid, begunAt, Earlier, endedAt, Stepped}
 
 -- ---- values laid into a list
@@ -55,18 +55,10 @@ module _ (line : Run) (cs : List ℤ) (p : ℕ) (buffer : List ℤ) where
   goes-on true false s k e f = absurd (true≢false (sym f))
   goes-on false h s k e f = absurd (true≢false (sym e))
 
-  pub ends : (b h : Bool) (s k : ℕ) (t u : ℤ) (after : List ℤ) → b ≡ true → h ≡ false → t ≡ top-from (line .top) cs s →
-      u ≡ bottom-to (line .bottom) cs (p - 1) → after ≡ laid buffer (2 * k) (t ∷ u ∷ []) →
+  pub ends : (b h : Bool) (s k : ℕ) (r : Run) (after : List ℤ) → b ≡ true → h ≡ false → r ≡ stretchOf line cs s (pred p) →
+      after ≡ laid buffer (2 * k) (r .top ∷ r .bottom ∷ []) →
       Stepped line cs p h (progress b s k) buffer after (progress h p (k + 1))
   unfolding flat
-  ends true false s k t u after e f x y q =
-      let d : p - 1 ≡ pred p = omega arith in
-      record {
-        begun = refl;
-        count = refl;
-        buffer =
-            q ∙ ap (λ z. laid buffer (2 * k) (z ∷ u ∷ [])) x
-            ∙ ap (λ z. laid buffer (2 * k) (top-from (line .top) cs s ∷ z ∷ [])) (y ∙ ap (bottom-to (line .bottom) cs) d);
-      }
-  ends true true s k t u after e f x y q = absurd (true≢false f)
-  ends false h s k t u after e f x y q = absurd (true≢false (sym e))
+  ends true false s k r after e f x q = record { begun = refl; count = refl; buffer = q ∙ ap (λ y. laid buffer (2 * k) (y .top ∷ y .bottom ∷ [])) x }
+  ends true true s k r after e f x q = absurd (true≢false f)
+  ends false h s k r after e f x q = absurd (true≢false (sym e))

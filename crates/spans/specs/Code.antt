@@ -51,6 +51,13 @@ begunAfter p false g = outside
 begunAfter p true outside = since p
 begunAfter p true (since s) = since s
 
+-- a span from one interval to the one before another
+pub record To-end (line : List ℤ) (n since p : ℕ) : Type 0 where
+  pub cuts : Cuts-in line n
+  pub low : Low-cuts line n
+  pub begins : since < p
+  pub inside : p ≤ n + 1
+
 -- what a step at interval p may be given; behind the last interval one more, without the label, ends the open span
 pub record To-step (e : Run) (buffer line : List ℤ) (n p : ℕ) (has : Bool) (g : Progress) : Type 0 where
   pub cuts : Cuts-in line n

@@ -56,7 +56,7 @@ module _ (line : Run) (cs : List ℤ) (has : ℕ → Bool) where
       go true = refl
       go false = refl
 
-  parted : (p : ℕ) (g : Begun) → p ≤ length cs → left p g ≡ endedAt line cs p (has p) g ++ left (suc p) (begunAfter p (has p) g)
+  pub parted : (p : ℕ) (g : Begun) → p ≤ length cs → left p g ≡ endedAt line cs p (has p) g ++ left (suc p) (begunAfter p (has p) g)
   parted p g l =
       let e : suc (length cs) - p ≡ suc (suc (length cs) - suc p) = omega arith in
       ap (λ m. runsFrom line cs has m p g) e ∙ one-more (suc (length cs) - suc p) p g
@@ -66,10 +66,10 @@ module _ (line : Run) (cs : List ℤ) (has : ℕ → Bool) where
   last-one p outside = refl
   last-one p (since s) = refl
 
-  last-parted : (p : ℕ) (g : Begun) → p ≡ suc (length cs) → left p g ≡ endedAt line cs p false g ++ []
+  pub last-parted : (p : ℕ) (g : Begun) → p ≡ suc (length cs) → left p g ≡ endedAt line cs p false g ++ []
   last-parted p g d = let e : suc (length cs) - p ≡ 0 = omega arith in ap (λ m. runsFrom line cs has m p g) e ∙ last-one p g
 
-  begins-after : (p : ℕ) (h : Bool) (g : Begun) → Earlier g p → Earlier (begunAfter p h g) (suc p)
+  pub begins-after : (p : ℕ) (h : Bool) (g : Begun) → Earlier g p → Earlier (begunAfter p h g) (suc p)
   begins-after p false g l = tt
   begins-after p true outside l = omega arith
   begins-after p true (since s) l = omega arith

@@ -1,11 +1,12 @@
 // The spans of a label, written to the lent buffer.
 ghost use mathlib.Core.Path.{_≡_};
 ghost use mathlib.Core.List.{[], _∷_};
-ghost use Prim.Native.Nat.{_+_, _*_, _≤_};
+ghost use Prim.Native.Nat.{pred, _+_, _*_, _≤_};
 ghost use lib.ListN.{length, take};
 ghost use Rattle.terms.specs.HoleLaws.{lineOf};
-ghost use Rattle.spans.specs.Runs.{runs, hasLabel};
-ghost use Rattle.spans.specs.Code.{laid, To-write, Spans-written, To-step, Stepped};
+ghost use Rattle.terms.specs.Spans.{run};
+ghost use Rattle.spans.specs.Runs.{stretchOf, runs, hasLabel};
+ghost use Rattle.spans.specs.Code.{laid, To-write, Spans-written, To-end, To-step, Stepped};
 use terms::CUTS;
 use terms::Hole;
 use terms::INTERVALS;
@@ -15,6 +16,23 @@ struct Progress {
     begun: bool,
     since: usize,
     count: usize,
+}
+
+// A span's two ends.
+pub struct Ends {
+    pub top: i32,
+    pub bottom: i32,
+}
+
+// The ends of the span from interval `since` to the one before `p`.
+pub fn ends_of(cuts: &[i32; CUTS], n: usize, since: usize, p: usize, hole: Hole) -> Ends
+    requires { ⌜ To-end (now cuts) n since p ⌝ }
+    ensures { λ r. ⌜ run (r .top) (r .bottom) ≡ stretchOf (lineOf hole) (take n (now (cuts .entry))) since (pred p) ⌝ }
+{
+    Ends {
+        top: line::top_from(cuts, n, since, hole.top()),
+        bottom: line::bottom_to(cuts, n, p - 1, hole.bottom()),
+    }
 }
 
 // Writes a span's two ends as pair number `place`.
@@ -49,9 +67,8 @@ fn step(
     if has {
         return state;
     }
-    let top = line::top_from(cuts, n, state.since, hole.top());
-    let bottom = line::bottom_to(cuts, n, p - 1, hole.bottom());
-    put_pair(spans, state.count, top, bottom);
+    let ended = ends_of(cuts, n, state.since, p, hole);
+    put_pair(spans, state.count, ended.top, ended.bottom);
     Progress {
         begun: has,
         since: p,

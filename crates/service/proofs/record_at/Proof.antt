@@ -15,6 +15,7 @@ use Rattle.commands.specs.Call.{judged, effect, call}
 use Rattle.commands.specs.Buffers.{lent}
 use Rattle.reader.specs.Code.{parsedOf}
 use Rattle.reader.proofs.Reading.{body-at, body-room}
+use Rattle.commands.specs.Code.{with-spans}
 use Rattle.commands.proofs.Working.{parts}
 use Rattle.service.proofs.Lending.{lent-refused, call-read}
 use borrow.Author.Needs.{needs}
@@ -108,7 +109,7 @@ work-requires c κs =
     let known = command .command .given in
     let found = lent-state .lent-state .ensures .found (command .before .before .before .enum-told .given .1) in
     let said = sym (read .parsed) ∙ ap (λ (i : Input). parsedOf i (bodyOf s)) (known .1) in
-    (found .state-held, parse-proper _ s (known .0 .0) (bodyOf s) (known .0 .1 .0) said, found .room)
+    (found .state-held, parse-proper _ s (known .0 .0) (bodyOf s) (known .0 .1 .0) said, with-spans (found .room))
 
 same-length : tie.Need-same-length
 same-length c = search needs

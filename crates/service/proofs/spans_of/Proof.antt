@@ -7,6 +7,7 @@ use Rattle.terms.specs.Held.{Held}
 use Rattle.records.specs.Records.{asQuestion, parsedBody}
 use Rattle.commands.specs.Call.{judged, effect, spanCall}
 use Rattle.commands.specs.Buffers.{lent}
+use Rattle.commands.specs.Code.{with-spans}
 use Rattle.commands.proofs.Working.{parts}
 use Rattle.service.proofs.Lending.{lent-passed, lent-refused}
 use borrow.Author.Needs.{needs}
@@ -22,7 +23,7 @@ enum-told c = search needs
 aside-requires : tie.Need-aside-requires
 aside-requires c κs =
     let found = c .before .before .before .before .before .before .lent-state .ensures .found (c .before .before .before .enum-told .given .1) in
-    (found .state-held, found .room)
+    (found .state-held, with-spans (found .room))
 
 enum-known-tested : tie.Need-enum-known-tested
 enum-known-tested c = search needs

@@ -32,47 +32,30 @@ returns c = not-begun _ _ _ _ _ _ _ _ (not-true _ (c .if1 .taken))
 returns-2 : tie.Need-returns-2
 returns-2 c = goes-on _ _ _ _ _ _ _ _ (not-false _ (search needs)) (search needs)
 
-top-requires : tie.Need-top-requires
-top-requires c κs = search needs
-
-top-from-requires : tie.Need-top-from-requires
-top-from-requires c κs = (start (c .before) .pre .cuts, omega (arith, earlier (c .before)))
-
-sub-bottom-to : tie.Need-sub-bottom-to
-sub-bottom-to c = omega (arith, earlier (c .before .before))
-
-bottom-requires : tie.Need-bottom-requires
-bottom-requires c κs = search needs
-
-bottom-to-requires : tie.Need-bottom-to-requires
-bottom-to-requires c κs = search needs
+ends-of-requires : tie.Need-ends-of-requires
+ends-of-requires c κs =
+    let pre = start c .pre in
+    record { cuts = pre .cuts; low = pre .low; begins = earlier c; inside = pre .inside }
 
 put-pair-requires : tie.Need-put-pair-requires
 put-pair-requires c κs =
-    let e = c .before .before .before .before .before in
+    let e = c .before .before .before .before in
     pair-fits _ _ _ _ _ _ _ _ (has-begun e) (no-label e) (start e .pre .room)
 
-add-t12 : tie.Need-add-t12
-add-t12 c = search needs
+add-t13 : tie.Need-add-t13
+add-t13 c = search needs
 
 same-length : tie.Need-same-length
 same-length c = search needs
 
 returns-3 : tie.Need-returns-3
 returns-3 c =
-    let w = c .before .before in
-    let b = w .before .before in
-    let t = b .before .before in
-    let e = t .before .before in
-    let T : SFits w32 (t .before .top .result) = record { sfits = t .before .top .ok } in
-    let B : SFits w32 (b .before .bottom .result) = record { sfits = b .before .bottom .ok } in
-    ends _ _ _ _ _ _ _ _ _ _ _ (has-begun e) (no-label e)
-    (rw (toZ-ofZ T, t .before .top .ensures) at (t .top-from .ensures))
-    (rw (toZ-ofZ B, b .before .bottom .ensures) at (b .bottom-to .ensures))
-    (rw (
-      toZ-ofZ {w = w32} {z = t .top-from .result} (record { sfits = t .top-from .ok }),
-      toZ-ofZ {w = w32} {z = b .bottom-to .result} (record { sfits = b .bottom-to .ok }),
-    ) at (w .put-pair .ensures))
+    let paired = c .before .before in
+    let ended = paired .before .before .before .before in
+    let e = ended .before in
+    let top : SFits w32 (ended .ends-of .result .top) = search needs in
+    let bottom : SFits w32 (ended .ends-of .result .bottom) = search needs in
+    ends _ _ _ _ _ _ _ _ _ _ (has-begun e) (no-label e) (ended .ends-of .ensures) (rw (toZ-ofZ top, toZ-ofZ bottom) at (paired .put-pair .ensures))
 
 pub step-spec : {M : Type 1} → statement M
 step-spec =
@@ -80,12 +63,8 @@ step-spec =
     (tie.spec
     returns
     returns-2
-    top-requires
-    top-from-requires
-    sub-bottom-to
-    bottom-requires
-    bottom-to-requires
+    ends-of-requires
     put-pair-requires
-    add-t12
+    add-t13
     same-length
     returns-3)
