@@ -2,8 +2,8 @@
  * A host program: lends its memory to the library, feeds it a small section record by record and prints what it says.
  * The section is the worked example of the specification, then a question beside the records, calls with null pointers
  * where the length is 0, a mark with top and bottom, a rule list by the new counting, a hole with two ends, a pad of
- * two wells, one of them contradictory, a rule list that is held to the print profile, and at last a stretch correction
- * by which all depths move.
+ * two wells, one of them contradictory, a rule list that is held to the print profile, a stretch correction by which
+ * all depths move, and at last a bill by the metre.
  */
 #include <harmikse.h>
 
@@ -155,7 +155,8 @@ static void print_depth(int32_t depth, int32_t no_end)
 
 static void print_result(uint32_t result)
 {
-    static const char *const words[] = {"done", "yes", "no", "contradiction", "spans", "end", "refused"};
+    static const char *const words[] = {"done", "yes", "no", "contradiction", "spans", "end", "refused", "total",
+                                        "open"};
     uint32_t answer = HARMIKSE_ANSWER(result);
     uint32_t value = HARMIKSE_VALUE(result);
 
@@ -321,6 +322,77 @@ static void write_shift(void)
     ask_spans(0, 1);
 }
 
+/*
+ * A zone report of well 0: sand, label 1, from 100 to 249, at 400 and at 409, which WITHIN 11 fills, and gas, label 2,
+ * from 240 to 620. Whatever is above the sand is cased, label 4. Well 1 has gas and water, label 3, at 340, which can't
+ * be.
+ */
+static void write_report(void)
+{
+    reset();
+    add_within(11, 1, 1);
+    add_operator(3, 1, 4);
+    add_both(2, 3, 63);
+    put_stretch(0, 1, 100, 249);
+    put_label(0, 1, 400);
+    put_label(0, 1, 409);
+    put_stretch(0, 2, 240, 620);
+    put_label(1, 2, 340);
+    put_label(1, 3, 340);
+    ask_spans(0, 1);
+    ask_spans(0, 2);
+}
+
+/*
+ * Price lists: a label, the cents for each started metre and the least cents for a span. Sand is 150 cm, two started
+ * metres at 2.75, and 10 cm at the least price, 4.00; gas is 381 cm, four started metres at 306.25; there is no water.
+ */
+static const uint32_t zones[][HARMIKSE_LINE_NUMBERS] = {
+    {1,   275,   400},
+    {2, 30625, 50000},
+    {3,   900,  5000},
+};
+
+/* What is cased has no end at the top, so it can't be charged, also not for nothing. */
+static const uint32_t cased[][HARMIKSE_LINE_NUMBERS] = {
+    {1,   275,   400},
+    {4,     0,     0},
+};
+
+/* No price is over 10,000.00. */
+static const uint32_t dear[][HARMIKSE_LINE_NUMBERS] = {
+    {1, HARMIKSE_MOST_PRICE + 1, 0},
+};
+
+#define LINES(list) (sizeof(list) / sizeof((list)[0]))
+
+static void print_money(const char *word, uint64_t cents)
+{
+    printf("%s %" PRIu64 ".%02" PRIu64, word, cents / 100, cents % 100);
+}
+
+/* Prints a price list and what the item costs by it. No span buffer is needed. */
+static void print_bill(uint32_t item, const uint32_t list[][HARMIKSE_LINE_NUMBERS], size_t lines)
+{
+    uint64_t total = 0;
+    uint32_t result = harmikse_charge(block, sizeof block, labels, HARMIKSE_LABEL_ENTRIES, links, sizeof links,
+                                      &list[0][0], lines * HARMIKSE_LINE_NUMBERS, item, &total);
+
+    printf("bill of item %" PRIu32 "\n", item);
+    for (size_t i = 0; i < lines; i++) {
+        printf("  label %" PRIu32, list[i][0]);
+        print_money(", a metre", list[i][1]);
+        print_money(", at least", list[i][2]);
+        printf("\n");
+    }
+    if (HARMIKSE_ANSWER(result) == HARMIKSE_TOTAL) {
+        print_money("total", total);
+        printf("\n");
+    } else {
+        print_result(result);
+    }
+}
+
 /* Hands over what is left of the stream, record by record; fails where a record is not used. */
 static int feed(void)
 {
@@ -370,5 +442,14 @@ int main(void)
     if (feed() != 0)
         return 1;
     write_shift();
-    return feed();
+    if (feed() != 0)
+        return 1;
+    write_report();
+    if (feed() != 0)
+        return 1;
+    print_bill(0, zones, LINES(zones));
+    print_bill(0, cased, LINES(cased));
+    print_bill(1, zones, LINES(zones));
+    print_bill(0, dear, LINES(dear));
+    return 0;
 }

@@ -50,6 +50,28 @@ fn went_along<T: Copy + PartialEq>(way: Move, pieces: usize, here: &[T], there: 
     pairs.all(|(here, there)| moved_row(way, here, pieces) == there)
 }
 
+/// Whether both tables went along with the section.
+pub fn tables_along(way: Move, held: &Held, here: &Memory, there: &Memory) -> bool {
+    let pieces = representatives(held).len();
+    went_along(way, pieces, &here.labels[..16 * PIECES], &there.labels)
+        && went_along(way, pieces, &here.links[..256 * PIECES], &there.links)
+}
+
+/// Memory with the section as it is, and with the section moved; none where a depth leaves its
+/// range.
+pub fn sections(real: &Memory, held: &Held, way: Move) -> Option<[Memory; 2]> {
+    let moved = held.moved(way)?;
+    let mut here = real.clone();
+    here.block[..SIZE].copy_from_slice(&encode(held));
+    let mut there = here.clone();
+    if let Move::Shift(by) = way {
+        send(&mut there, &Record::Shift(by));
+    } else {
+        there.block[..SIZE].copy_from_slice(&encode(&moved));
+    }
+    Some([here, there])
+}
+
 impl Alike {
     /// Asks on both lines; none where a depth leaves its range or the question 64 bits, or where it
     /// is no question. The text says what differs, if something does.
@@ -61,22 +83,12 @@ impl Alike {
     ) -> Result<Option<Alike>, String> {
         let proper = Some(question).filter(|question| question.refusal().is_none());
         let asked = proper.and_then(|question| way.question(question));
-        let (Some(moved), Some(asked)) = (held.moved(way), asked) else {
+        let (Some([mut here, mut there]), Some(asked)) = (sections(real, &held, way), asked) else {
             return Ok(None);
         };
-        let mut here = real.clone();
-        here.block[..SIZE].copy_from_slice(&encode(&held));
-        let mut there = here.clone();
-        if let Move::Shift(by) = way {
-            send(&mut there, &Record::Shift(by));
-        } else {
-            there.block[..SIZE].copy_from_slice(&encode(&moved));
-        }
         let (answer, numbers) = ask(&mut here, &question);
         let (wanted, given) = ((answer, way.pairs(&numbers)), ask(&mut there, &asked));
-        let pieces = representatives(&held).len();
-        let tables = went_along(way, pieces, &here.labels[..16 * PIECES], &there.labels)
-            && went_along(way, pieces, &here.links[..256 * PIECES], &there.links);
+        let tables = tables_along(way, &held, &here, &there);
         if given != wanted || !tables {
             return Err(format!(
                 "{way:?}: {wanted:?} expected, {given:?} given, tables alike: {tables}"

@@ -11,16 +11,16 @@ pub const WAYS: [&str; 2] = ["shifted", "mirrored"];
 
 pub type AlikeCase = (&'static str, fn(&Alike) -> bool);
 
-impl Alike {
-    /// The place of the way that the section went; none where it stayed.
-    pub fn way(&self) -> Option<usize> {
-        match self.way {
-            Move::Shift(0) => None,
-            Move::Shift(_) => Some(0),
-            Move::Mirror => Some(1),
-        }
+/// The place of the way that a section went; none where it stayed.
+pub fn place_of(way: Move) -> Option<usize> {
+    match way {
+        Move::Shift(0) => None,
+        Move::Shift(_) => Some(0),
+        Move::Mirror => Some(1),
     }
+}
 
+impl Alike {
     /// A question about a label or a link, with the answer of that number.
     fn said(&self, answer: Answer, link: bool) -> bool {
         let asked = matches!(self.question, Record::Query(fact, _) if fact.is_link() == link);

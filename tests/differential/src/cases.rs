@@ -1,6 +1,6 @@
 //! Cases with stretches and with countings that a run has to meet, each by its name; those with
 //! holes stand in `hole_cases.rs`, those with the profile in `profile_cases.rs`, those with shifts in
-//! `shift_cases.rs`, those with wells in `joined_cases.rs`.
+//! `shift_cases.rs`, those with wells in `joined_cases.rs`, those with charges in `charge_cases.rs`.
 
 use crate::distance::{near_starts, Start};
 use model::block::{read, COUNTING_AT, RULES_AT};

@@ -6,7 +6,15 @@ use model::held::Held;
 use model::tables::PIECES;
 use model::terms::*;
 
-const ANSWERS: [&str; 4] = ["yes", "no", "contradiction", "spans"];
+/// The answers that are counted, by their numbers. In a hole nothing is open, so that open is left
+/// out.
+const ANSWERS: [(u32, &str); 5] = [
+    (1, "yes"),
+    (2, "no"),
+    (3, "contradiction"),
+    (4, "spans"),
+    (7, "total"),
+];
 
 /// What is combined: its name where it is not so, and where it is.
 const PARTS: [[&str; 2]; 5] = [
@@ -52,29 +60,31 @@ fn name(combination: usize) -> String {
 }
 
 impl Combined {
-    /// Counts an answered question by what is held and the link table laid out for it. Questions
-    /// with no rule by which the counting can decide are left out.
-    pub fn see(&mut self, held: &Held, links: &[u8], fact: Fact, answer: Answer) {
-        if !held.rules.iter().any(counting_matters) {
+    /// Counts an answered question about these items by what is held and the link table laid out
+    /// for it. Questions with no rule by which the counting can decide are left out.
+    pub fn see(&mut self, held: &Held, links: &[u8], items: [u8; 2], answer: u32) {
+        let place = ANSWERS.iter().position(|&(number, _)| number == answer);
+        let matters = held.rules.iter().any(counting_matters);
+        let Some(place) = place.filter(|_| matters) else {
             return;
-        }
+        };
         let parts = [
             held.hole.is_some(),
             held.counting == Counting::New,
             held.marks.iter().any(|mark| !mark.is_point()),
-            fact.items().iter().any(|&item| joined(links, item)),
+            items.iter().any(|&item| joined(links, item)),
             held.profile,
         ];
         let combination = parts
             .iter()
             .fold(0, |all, &part| 2 * all + usize::from(part));
-        // The answers to questions are numbered from 1.
-        self.0[combination][answer.numbers().0 as usize - 1] += 1;
+        self.0[combination][place] += 1;
     }
 
     pub fn print(&self) {
         for (combination, counts) in self.0.into_iter().enumerate() {
-            let counted = listed(ANSWERS.into_iter().zip(counts));
+            let names = ANSWERS.into_iter().map(|(_, name)| name);
+            let counted = listed(names.zip(counts));
             println!("{}: {counted}", name(combination));
         }
     }
@@ -83,7 +93,7 @@ impl Combined {
     pub fn counts(&self) -> impl Iterator<Item = (String, u64)> + '_ {
         let named = move |combination| {
             let counts = ANSWERS.into_iter().zip(self.0[combination]);
-            counts.map(move |(answer, n)| (format!("{}: {answer}", name(combination)), n))
+            counts.map(move |((_, answer), n)| (format!("{}: {answer}", name(combination)), n))
         };
         (0..COMBINATIONS).flat_map(named)
     }

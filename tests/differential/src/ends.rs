@@ -11,8 +11,11 @@ impl Source {
             return (depth, depth);
         }
         let short = depth.saturating_add(self.dice.between(1, 9) as i32);
-        let far = self.depth();
-        let other = self.dice.pick(&[short, far, far]);
+        let (far, metres) = (self.depth(), self.metres_below(depth));
+        let other = match self.dice.percent(self.plan.metres) {
+            true => metres,
+            false => self.dice.pick(&[short, far, far]),
+        };
         match self.dice.percent(self.plan.reversed) {
             true => (depth.max(other), depth.min(other)),
             false => (depth.min(other), depth.max(other)),
@@ -22,6 +25,9 @@ impl Source {
     /// Ends of the pool: one as top after the other, some of the next few as bottom.
     pub fn ends_in_turn(&mut self, turn: usize) -> (i32, i32) {
         let at = turn % self.pool.len();
+        if self.dice.percent(self.plan.metres) {
+            return (self.pool[at], self.metres_below(self.pool[at]));
+        }
         let steps = match self.dice.percent(self.plan.stretches) {
             true => self.dice.below(6) as usize,
             false => 0,

@@ -5,6 +5,10 @@
 mod alike;
 mod alike_cases;
 mod cases;
+mod charge_calls;
+mod charge_cases;
+mod charge_seen;
+mod charges;
 mod combined;
 mod damage;
 mod distance;

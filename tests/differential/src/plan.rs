@@ -4,6 +4,7 @@ use crate::plans::*;
 use dice::Dice;
 
 /// Chances are percentages for each field, record or call.
+#[derive(Default)]
 pub struct Plan {
     pub calls: u64,
     pub items: u8,
@@ -50,6 +51,12 @@ pub struct Plan {
     pub behind: u64,
     /// Questions that are asked again with the section moved.
     pub alike: u64,
+    /// Calls that ask for a charge.
+    pub charges: u64,
+    /// Charges of all that a section can cost, which is laid at the start of such a stream.
+    pub most: u64,
+    /// Stretches about as long as some whole metres.
+    pub metres: u64,
     /// Records about wells: what joins items, parts them, makes one bad, and questions.
     pub pads: u64,
     /// Links of the chain that a pad starts with.
@@ -61,7 +68,7 @@ pub struct Plan {
     pub short: u64,
 }
 
-/// A small valid stream; the others differ from it.
+/// A small valid stream without pads; the others differ from it.
 fn small(dice: &mut Dice) -> Plan {
     Plan {
         calls: 40,
@@ -91,19 +98,19 @@ fn small(dice: &mut Dice) -> Plan {
         shifts: 3,
         behind: 30,
         alike: 12,
-        pads: 0,
-        chain: 0,
+        charges: 6,
+        metres: 4,
         never: dice.pick(&[0, 0, 0, 4, 12]),
         edge: 2,
         damage: 1,
-        spoil: 0,
         short: 1,
+        ..Plan::default()
     }
 }
 
 pub fn plan(dice: &mut Dice) -> Plan {
     let plan = small(dice);
-    match dice.below(58) {
+    match dice.below(65) {
         0..=1 => plan,
         2 => points(plan),
         3 | 4 => Plan {
@@ -133,6 +140,7 @@ pub fn plan(dice: &mut Dice) -> Plan {
         46..=48 => printing(dice, plan),
         49..=51 => printed(dice, plan),
         52..=56 => shifting(dice, plan),
+        57..=63 => billing(dice, plan),
         _ => full(dice, plan),
     }
 }

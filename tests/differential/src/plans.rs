@@ -221,6 +221,60 @@ pub fn shifting(dice: &mut Dice, plan: Plan) -> Plan {
     }
 }
 
+/// Few labels with spans of about whole metres, and many a charge; now and then over the whole
+/// range, of many spans, of all that a section can cost, or with wells of which some are bad.
+pub fn billing(dice: &mut Dice, plan: Plan) -> Plan {
+    let some = Plan {
+        calls: 50,
+        width: dice.pick(&[400, 3_000, 9_000]),
+        rules: dice.pick(&[0, 2, 4, 8]),
+        marks: 1 + dice.below(9),
+        never: dice.pick(&[0, 0, 8]),
+        linked: 25,
+        stretches: 70,
+        metres: 75,
+        ..few(plan)
+    };
+    let plan = match dice.below(12) {
+        0 => widest(some),
+        1 => crowd(some),
+        2 => Plan {
+            spoil: 40,
+            short: 30,
+            ..some
+        },
+        3 | 4 => wells(dice, some),
+        5 => Plan {
+            calls: 20,
+            most: 30,
+            ..some
+        },
+        _ => some,
+    };
+    Plan {
+        apart: 30,
+        shifts: 8,
+        alike: 50,
+        charges: 60,
+        ..plan
+    }
+}
+
+/// Many short spans of one label.
+fn crowd(plan: Plan) -> Plan {
+    Plan {
+        items: 1,
+        labels: 2,
+        marks: 90,
+        depths: 80,
+        width: 3_000,
+        linked: 5,
+        stretches: 15,
+        metres: 5,
+        ..plan
+    }
+}
+
 /// Several wells in a section, with few rules, so that some are bad and others are not.
 fn wells(dice: &mut Dice, plan: Plan) -> Plan {
     Plan {
@@ -277,6 +331,7 @@ pub fn combined(dice: &mut Dice, plan: Plan) -> Plan {
         new: 65,
         hole: 50,
         profile: 60,
+        charges: 12,
         switches: 0,
         digs: 0,
         ..wells(dice, plan)

@@ -93,7 +93,7 @@ impl Source {
     }
 
     /// A label that ABOVE or BELOW concludes of a held mark, if there is one.
-    fn half_open(&mut self, held: &Held) -> Option<Fact> {
+    pub fn half_open(&mut self, held: &Held) -> Option<Fact> {
         let half_open = |s: &Start| [ABOVE, BELOW].contains(&s.op.code) && !s.concluded.is_link();
         let all: Vec<Start> = starts(held).filter(half_open).collect();
         (!all.is_empty()).then(|| self.dice.pick(&all).concluded)

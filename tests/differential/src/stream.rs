@@ -2,6 +2,7 @@
 
 use crate::alike::Alike;
 use crate::cases::Seen;
+use crate::charge_seen::Billed;
 use crate::damage::{damage, lengths, refill, spoil, with_rest, WHOLE};
 use crate::joined_seen::{Asked, By};
 use crate::plan::plan;
@@ -9,31 +10,45 @@ use crate::source::Source;
 use crate::tally::Tally;
 use dice::Dice;
 use model::block::{decode, encode, read, SIZE};
+use model::charge::Charge;
 use model::frame;
 use model::held::Held;
 use model::moved::Move;
 use model::service::{self, Lent, Memory};
 use model::terms::{Answer, Fact, Record};
-use panel::{Empty, Numbers};
+use panel::{Bill, Empty, Numbers};
 
 #[derive(Debug)]
 enum Call {
     Record(Vec<u8>),
     Spans(u32, u32),
+    Charge(Bill),
+}
+
+/// What a call answered.
+#[derive(Clone, Copy, PartialEq, Eq)]
+enum Reply {
+    Answer(Answer),
+    Charge(Charge),
 }
 
 impl Call {
     /// Whether a length that is lent is 0.
     fn lends_nothing(&self, lent: &Lent) -> bool {
-        let no_input = matches!(self, Call::Record(input) if input.is_empty());
-        no_input || [lent.block, lent.labels, lent.links, lent.spans].contains(&0)
+        // A charge is lent lines and no span buffer.
+        let (own, spans) = match self {
+            Call::Record(input) => (input.len(), lent.spans),
+            Call::Spans(..) => (1, lent.spans),
+            Call::Charge(bill) => (bill.lent, 1),
+        };
+        [lent.block, lent.labels, lent.links, spans, own].contains(&0)
     }
 
     /// The record, if the input starts with one of a known kind and length.
     fn record(&self) -> Option<Record> {
         match self {
             Call::Record(input) => frame::split(input).ok().as_ref().map(frame::read),
-            Call::Spans(..) => None,
+            Call::Spans(..) | Call::Charge(_) => None,
         }
     }
 
@@ -41,6 +56,7 @@ impl Call {
     fn question(&self) -> Option<(Fact, By)> {
         let fact = |item, label| Fact::Label { item, label };
         match (self, self.record()) {
+            (Call::Charge(_), _) => None,
             (Call::Spans(item, label), _) => Some((fact(*item as u8, *label as u8), By::SpansCall)),
             (_, Some(Record::Spans { item, label })) => Some((fact(item, label), By::SpansRecord)),
             (_, Some(Record::Query(fact, depth))) => Some((fact, By::Query(depth))),
@@ -59,11 +75,11 @@ fn asked((fact, by): (Fact, By)) -> Record {
 }
 
 pub struct Stream {
-    source: Source,
-    model: Memory,
-    real: Memory,
+    pub source: Source,
+    pub model: Memory,
+    pub real: Memory,
     /// The record that last changed what is held.
-    last: Option<Record>,
+    pub last: Option<Record>,
 }
 
 impl Stream {
@@ -74,6 +90,7 @@ impl Stream {
         let mut model = Memory::zeros(WHOLE);
         let mut held = source.held();
         source.lay_pad(&mut held);
+        source.lay_most(&mut held);
         model.block[..SIZE].copy_from_slice(&encode(&held));
         refill(&mut source.dice, &mut model);
         let real = model.clone();
@@ -102,21 +119,55 @@ impl Stream {
         let lent = lengths(&mut self.source);
         let empty = self.source.dice.pick(&[Empty::Null, Empty::Start]);
         let before = self.model.block.clone();
-        let answer = self.compare(&call, &lent, empty).map_err(|difference| {
+        let reply = self.compare(&call, &lent, empty).map_err(|difference| {
             let lent = format!("{lent:?}, {empty:?}");
             format!("call {number}: {difference}\n{lent}\n{call:x?}\nblock before: {before:x?}")
         })?;
-        self.tell(&call, &before, answer, tally);
+        match (&call, reply) {
+            (Call::Charge(bill), Reply::Charge(charge)) => {
+                let billed = Billed::new(&before, bill, lent, empty, charge);
+                self.tell_charge(billed.behind(self.last), tally);
+            }
+            (_, Reply::Answer(answer)) => self.tell(&call, &before, answer, tally),
+            _ => unreachable!("a charge for a record"),
+        }
         tally.nulls += u64::from(empty == Empty::Null && call.lends_nothing(&lent));
         match kept {
             Some(block) => {
                 self.model.block.clone_from(&block);
                 self.real.block.clone_from(&block);
             }
-            None if answer == Answer::Done => self.changed(call.record()),
-            None => self.ask_moved(&call, answer, tally)?,
+            None if reply == Reply::Answer(Answer::Done) => self.changed(call.record()),
+            None => self.ask_again(&call, reply, tally)?,
         }
         Ok(())
+    }
+
+    /// Asks the archive what was answered again, now and then, with the section as it is and moved.
+    fn ask_again(&mut self, call: &Call, reply: Reply, tally: &mut Tally) -> Result<(), String> {
+        let refused = match reply {
+            Reply::Answer(answer) => matches!(answer, Answer::Refused(_)),
+            Reply::Charge(charge) => matches!(charge, Charge::Refused(_)),
+        };
+        if refused || !self.source.dice.percent(self.source.plan.alike) {
+            return Ok(());
+        }
+        let asked = match call {
+            Call::Charge(bill) => self.charge_moved(bill, tally),
+            _ => self.ask_moved(call, tally),
+        };
+        asked.map_err(|difference| {
+            let block = &self.model.block;
+            format!("asked again, {difference}\n{call:x?}\nblock: {block:x?}")
+        })
+    }
+
+    /// A section, and where it is moved to.
+    pub fn section(&mut self) -> (Held, Move) {
+        let held = decode(&self.model.block).expect("a good block");
+        let by = self.source.amount(&held);
+        let way = self.source.dice.pick(&[Move::Mirror, Move::Shift(by)]);
+        (held, way)
     }
 
     /// Remembers what last changed what is held; the usual depths go along with a shift.
@@ -130,30 +181,21 @@ impl Stream {
         self.source.go_along(by);
     }
 
-    /// Asks the archive an answered question again, now and then, with the section as it is and
-    /// moved.
-    fn ask_moved(&mut self, call: &Call, answer: Answer, tally: &mut Tally) -> Result<(), String> {
-        let refused = matches!(answer, Answer::Refused(_));
-        let question = call.question().filter(|_| !refused);
-        let Some(question) = question.filter(|_| self.source.dice.percent(self.source.plan.alike))
-        else {
+    /// Asks a question with the section as it is and moved.
+    fn ask_moved(&mut self, call: &Call, tally: &mut Tally) -> Result<(), String> {
+        let Some(question) = call.question() else {
             return Ok(());
         };
-        let held = decode(&self.model.block).expect("a good block");
-        let by = self.source.amount(&held);
-        let way = self.source.dice.pick(&[Move::Mirror, Move::Shift(by)]);
+        let (held, way) = self.section();
         let question = self.source.asked_again(&held, asked(question));
-        let asked = Alike::ask(&self.real, held, way, question).map_err(|difference| {
-            let block = &self.model.block;
-            format!("asked again, {difference}\n{call:x?}\nblock: {block:x?}")
-        })?;
+        let asked = Alike::ask(&self.real, held, way, question)?;
         asked.iter().for_each(|alike| tally.see_alike(alike));
         Ok(())
     }
 
     /// Tells the tally what the call was and what it met.
     fn tell(&self, call: &Call, before: &[u8], answer: Answer, tally: &mut Tally) {
-        tally.count(answer);
+        tally.count(answer.numbers());
         if let Call::Record(input) = call {
             let seen = Seen::new(before, input, answer, &self.model.spans);
             tally.see(&seen.behind(self.last));
@@ -163,9 +205,8 @@ impl Stream {
             return;
         };
         let held = read(before).expect("a good block");
-        tally
-            .combined
-            .see(&held, &self.model.links, question.0, answer);
+        let (links, items) = (&self.model.links, question.0.items());
+        tally.combined.see(&held, links, items, answer.numbers().0);
         let asked = Asked::new(held, question, answer, self.last);
         asked.iter().for_each(|asked| tally.see_question(asked));
     }
@@ -194,6 +235,9 @@ impl Stream {
         if self.source.dice.percent(8) {
             return self.span_call(&held);
         }
+        if self.source.dice.percent(self.source.plan.charges) {
+            return Call::Charge(self.source.bill(&held));
+        }
         let record = self.source.record(&held);
         let input = self.source.written(&record);
         let dice = &mut self.source.dice;
@@ -206,7 +250,7 @@ impl Stream {
     }
 
     /// Makes the call on both sides and compares answer, bytes used and all memory.
-    fn compare(&mut self, call: &Call, lent: &Lent, empty: Empty) -> Result<Answer, String> {
+    fn compare(&mut self, call: &Call, lent: &Lent, empty: Empty) -> Result<Reply, String> {
         let (expected, used, returned) = match call {
             Call::Record(input) => {
                 let (answer, used) = service::record(&mut self.model, lent, input);
@@ -218,13 +262,17 @@ impl Stream {
                 let returned = panel::spans(&mut self.real, lent, *item, *label, empty);
                 (answer, 0, (returned, 0))
             }
+            Call::Charge(bill) => {
+                return self.compare_charge(bill, lent, empty).map(Reply::Charge);
+            }
         };
         let wanted = (expected.numbers(), used);
         if returned != wanted {
             let (wanted, given) = (said(wanted), said(returned));
             return Err(format!("{wanted} expected, {given} given"));
         }
-        differing(&self.model, &self.real).map_or(Ok(expected), Err)
+        let difference = differing(&self.model, &self.real);
+        difference.map_or(Ok(Reply::Answer(expected)), Err)
     }
 }
 
@@ -243,7 +291,7 @@ fn first<T: PartialEq + std::fmt::Debug>(name: &str, model: &[T], real: &[T]) ->
     ))
 }
 
-fn differing(model: &Memory, real: &Memory) -> Option<String> {
+pub fn differing(model: &Memory, real: &Memory) -> Option<String> {
     first("block", &model.block, &real.block)
         .or_else(|| first("labels", &model.labels, &real.labels))
         .or_else(|| first("links", &model.links, &real.links))

@@ -2,6 +2,7 @@
 //! It works on sets of depths; pieces of the line appear only where a table is laid out.
 
 pub mod block;
+pub mod charge;
 pub mod depths;
 pub mod derive;
 pub mod frame;

@@ -64,7 +64,7 @@ impl Lent {
 }
 
 /// What the lent block holds: refusals 1 and 2.
-fn held_in(memory: &Memory, lent: &Lent) -> Result<Held, u32> {
+pub(crate) fn held_in(memory: &Memory, lent: &Lent) -> Result<Held, u32> {
     if lent.too_short() {
         return Err(1);
     }
@@ -106,6 +106,15 @@ fn handle(memory: &mut Memory, mut held: Held, record: &Record) -> Answer {
     }
 }
 
+/// Derives, and lays out both tables.
+pub(crate) fn derive(memory: &mut Memory, held: &Held) -> Collection {
+    let found = Collection::least(held);
+    let depths = tables::representatives(held);
+    memory.labels[..LABEL_ENTRIES].copy_from_slice(&tables::label_table(&found, &depths));
+    memory.links[..LINK_ENTRIES].copy_from_slice(&tables::link_table(&found, &depths));
+    found
+}
+
 /// Derives, lays out both tables and answers from the depths of what is asked, unless an item
 /// joined to it is contradictory.
 fn ask(
@@ -114,10 +123,7 @@ fn ask(
     asked: Fact,
     answer: impl Fn(&mut Memory, &Depths) -> Answer,
 ) -> Answer {
-    let found = Collection::least(held);
-    let depths = tables::representatives(held);
-    memory.labels[..LABEL_ENTRIES].copy_from_slice(&tables::label_table(&found, &depths));
-    memory.links[..LINK_ENTRIES].copy_from_slice(&tables::link_table(&found, &depths));
+    let found = derive(memory, held);
     match found.contradiction(asked) {
         Some(item) => Answer::Contradiction(item.into()),
         None => answer(memory, found.of(asked)),

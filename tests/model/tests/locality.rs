@@ -3,6 +3,7 @@
 //! and marks elsewhere change no answer about it.
 
 use dice::Dice;
+use model::charge::{charged, Charge, Line};
 use model::depths::Depths;
 use model::derive::Collection;
 use model::held::Held;
@@ -216,5 +217,43 @@ fn marks_elsewhere_change_nothing() {
         left.beside_new_bad,
         left.beside_freed,
     ];
+    assert!(seen.iter().all(|&count| count > 90), "{seen:?}");
+}
+
+/// Bills of each used label alone, and of all but EVERY together.
+fn bills() -> Vec<Vec<Line>> {
+    let line = |label: &u8| Line {
+        label: (*label).into(),
+        price: 250,
+        least: 400,
+    };
+    let mut bills: Vec<Vec<Line>> = LABELS_USED.iter().map(|label| vec![line(label)]).collect();
+    bills.push(LABELS_USED[1..].iter().map(line).collect());
+    bills
+}
+
+/// A change of marks elsewhere alters no charge about the item, be it a total, open or a
+/// contradiction, though other items become bad or good by it.
+#[test]
+fn marks_elsewhere_cost_nothing() {
+    let mut seen = [0; 3];
+    for seed in 0..SECTIONS {
+        let mut dice = Dice::new(seed);
+        let held = held(&mut dice);
+        let before = Collection::least(&held);
+        let item = item(&mut dice);
+        let joined = set(before.joined([item, item]));
+        let after = Collection::least(&changed_elsewhere(&mut dice, &held, &joined));
+        let changed = bad(&before) != bad(&after);
+        for lines in bills() {
+            let said = charged(&before, item, &lines);
+            assert_eq!(charged(&after, item, &lines), said, "seed {seed}, {item}");
+            match said {
+                Charge::Total(total) => seen[0] += u64::from(changed && total > 0),
+                Charge::Open => seen[1] += u64::from(changed),
+                _ => seen[2] += u64::from(changed),
+            }
+        }
+    }
     assert!(seen.iter().all(|&count| count > 90), "{seen:?}");
 }

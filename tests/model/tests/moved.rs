@@ -4,6 +4,7 @@
 
 use dice::Dice;
 use model::block::encode;
+use model::charge::{charge, numbers, Charge, Line, MAX_PRICE};
 use model::depths::{Depths, NO_BOTTOM, NO_TOP};
 use model::derive::Collection;
 use model::frame::bytes;
@@ -285,6 +286,76 @@ fn shifted_answers() {
 #[test]
 fn mirrored_answers() {
     answers_go_along(true);
+}
+
+/// A bill for each item, of the labels that are used, so that some come twice.
+fn bill(dice: &mut Dice) -> Vec<Line> {
+    let labels = match dice.percent(60) {
+        true => &LABELS_USED[1..],
+        false => &LABELS_USED[..],
+    };
+    let count = dice.pick(&[0, 1, 1, 2, 3]);
+    let mut line = || Line {
+        label: dice.pick(labels).into(),
+        price: dice.pick(&[0, 1, 250, MAX_PRICE]),
+        least: dice.pick(&[0, 1, 300, MAX_PRICE]),
+    };
+    (0..count).map(|_| line()).collect()
+}
+
+/// The same with all depths 75 times as far from zero, so that the metres of spans differ.
+fn stretched(held: &Held) -> Held {
+    let end = |end: i32| end * 75;
+    let mark = |mark: &Mark| Mark {
+        top: end(mark.top),
+        bottom: end(mark.bottom),
+        ..*mark
+    };
+    Held {
+        hole: held.hole.map(|hole| Hole {
+            top: end(hole.top),
+            bottom: end(hole.bottom),
+        }),
+        marks: held.marks.iter().map(mark).collect(),
+        ..held.clone()
+    }
+}
+
+/// Totals over 0, charges that are open and contradictions.
+fn charge_sort(charge: Charge) -> Option<usize> {
+    match charge {
+        Charge::Total(total) => (total > 0).then_some(0),
+        Charge::Open => Some(1),
+        Charge::Contradiction(_) => Some(2),
+        Charge::Refused(_) => None,
+    }
+}
+
+/// What is charged is the same on either line, to the cent.
+#[test]
+fn charges_stay() {
+    let mut seen = [0; 3];
+    for (seed, mirror) in (0..500).flat_map(|seed| [(seed, false), (seed, true)]) {
+        let mut dice = Dice::new(seed);
+        let held = stretched(&moved(seed, mirror).0);
+        let way = match mirror {
+            true => Move::Mirror,
+            false => Move::Shift(some_shift(&mut dice, &held)),
+        };
+        // Stretched, a section that lay at an end of the range may leave it.
+        let Some(to) = held.moved(way).filter(Held::reachable) else {
+            continue;
+        };
+        let (mut here, mut there) = (memory_of(&held), memory_of(&to));
+        for item in ITEMS_USED {
+            let given = numbers(&bill(&mut dice));
+            let said = charge(&mut here, &Lent::EXACT, &given, item.into());
+            let other = charge(&mut there, &Lent::EXACT, &given, item.into());
+            assert_eq!(other, said, "seed {seed}, {way:?}");
+            charge_sort(said).iter().for_each(|&sort| seen[sort] += 1);
+        }
+    }
+    assert!(seen.iter().all(|&count| count > 100), "{seen:?}");
 }
 
 /// The record of kind 20 leads to the moved section, and twice mirrored is the section itself.

@@ -1,10 +1,12 @@
 //! Checks the model on the worked examples of the papers and requests, whose answers were written
-//! by hand, and writes each as `.records` and `.listing` for the program.
+//! by hand, and writes each as `.records` and `.listing` for the program, which knows no charges.
 //! Arguments: the folder of the examples and the folder to write into.
 
 mod text;
 
+use model::charge::charge;
 use model::listing::listing;
+use model::service::{record, Lent, Memory};
 use std::path::{Path, PathBuf};
 use std::process::ExitCode;
 
@@ -25,6 +27,32 @@ fn difference(given: &str, expected: &str) -> String {
     format!("`{expected}` expected, `{given}` given")
 }
 
+/// The memory behind the records of a stream.
+fn memory_behind(mut stream: &[u8]) -> Memory {
+    let mut memory = Memory::zeros(Lent::EXACT);
+    while !stream.is_empty() {
+        let (_, used) = record(&mut memory, &Lent::EXACT, stream);
+        stream = &stream[used as usize..];
+    }
+    memory
+}
+
+/// Asks for each charge behind the records that stand before it. It must leave the block alone.
+fn check_charges(example: &text::Example) -> Result<(), String> {
+    for charged in &example.charges {
+        let before = memory_behind(&example.stream[..charged.behind]);
+        let mut memory = before.clone();
+        let said = charge(&mut memory, &Lent::EXACT, &charged.numbers, charged.item);
+        let (said, expected, line) = (said.to_string(), &charged.answer, charged.line);
+        if said != *expected || memory.block != before.block {
+            return Err(format!(
+                "line {line}: `{expected}` expected, `{said}` given"
+            ));
+        }
+    }
+    Ok(())
+}
+
 fn check(path: &Path, out: &Path) -> Result<(), String> {
     let source = std::fs::read_to_string(path).map_err(|error| error.to_string())?;
     let example = text::read(&source)?;
@@ -32,6 +60,7 @@ fn check(path: &Path, out: &Path) -> Result<(), String> {
     if given != example.listing {
         return Err(difference(&given, &example.listing));
     }
+    check_charges(&example)?;
     let file = out.join(path.file_name().unwrap_or_default());
     std::fs::write(file.with_extension("records"), example.stream)
         .and_then(|()| std::fs::write(file.with_extension("listing"), given))

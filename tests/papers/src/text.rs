@@ -2,7 +2,8 @@
 //! `name WORD NUMBER` gives an item, label or link kind a name; `#` starts a comment.
 //! A mark at one depth is put and taken by the kinds 6 to 9, `from TOP to BOTTOM` by 13 to 16;
 //! `counting NUMBER` is kind 17, `hole from TOP to BOTTOM` kind 18, `shift NUMBER` kind 20,
-//! `profile` kind 21.
+//! `profile` kind 21. `charge ITEM` with any number of `LABEL PRICE LEAST` is the call beside the
+//! records; its total is in cents.
 
 use model::frame::{bytes, wide_bytes};
 use model::short::*;
@@ -14,7 +15,20 @@ pub struct Example {
     /// The records' bytes.
     pub stream: Vec<u8>,
     pub listing: String,
+    pub charges: Vec<Charged>,
     records: usize,
+}
+
+/// A charge between two records.
+pub struct Charged {
+    /// How many bytes of the stream stand before it.
+    pub behind: usize,
+    pub item: u32,
+    /// The numbers of its lines, which may end inside one.
+    pub numbers: Vec<u32>,
+    /// The line of the text, and the answer that is written there.
+    pub line: usize,
+    pub answer: String,
 }
 
 struct Line<'a> {
@@ -39,6 +53,21 @@ impl Line<'_> {
     fn small(&mut self) -> Result<u8, String> {
         let number = self.number()?;
         u8::try_from(number).map_err(|_| format!("{number} does not fit a byte"))
+    }
+
+    /// A number of a charge.
+    fn large(&mut self) -> Result<u32, String> {
+        let number = self.number()?;
+        u32::try_from(number).map_err(|_| format!("{number} does not fit 4 bytes"))
+    }
+
+    /// The numbers up to the line's end.
+    fn all_large(&mut self) -> Result<Vec<u32>, String> {
+        let mut numbers = Vec::new();
+        while self.words.clone().next().is_some() {
+            numbers.push(self.large()?);
+        }
+        Ok(numbers)
     }
 
     /// A depth of a mark or a hole, or a shift.
@@ -126,9 +155,33 @@ impl Line<'_> {
     }
 }
 
+/// Reads a line of a charge or of a record into the example.
+fn read_call(
+    line: &mut Line,
+    place: usize,
+    answer: &str,
+    example: &mut Example,
+) -> Result<(), String> {
+    if line.words.clone().next() == Some("charge") {
+        line.expect("charge")?;
+        example.charges.push(Charged {
+            behind: example.stream.len(),
+            item: line.large()?,
+            numbers: line.all_large()?,
+            line: place,
+            answer: answer.to_string(),
+        });
+        return Ok(());
+    }
+    example.stream.extend(line.record()?);
+    example.records += 1;
+    example.listing += &format!("{} {}\n", example.records, answer);
+    Ok(())
+}
+
 /// Reads one line into the example or the names.
 fn read_line(
-    line: &str,
+    (place, line): (usize, &str),
     names: &mut HashMap<String, i64>,
     example: &mut Example,
 ) -> Result<(), String> {
@@ -140,14 +193,11 @@ fn read_line(
         return Ok(());
     }
     let mut line = Line { names, words };
-    let record = line.record()?;
-    if answer.is_empty() || line.words.next().is_some() {
-        return Err(format!("{said}: no answer, or too many words"));
+    read_call(&mut line, place, answer.trim(), example)?;
+    match answer.is_empty() || line.words.next().is_some() {
+        true => Err(format!("{said}: no answer, or too many words")),
+        false => Ok(()),
     }
-    example.stream.extend(record);
-    example.records += 1;
-    example.listing += &format!("{} {}\n", example.records, answer.trim());
-    Ok(())
 }
 
 pub fn read(text: &str) -> Result<Example, String> {
@@ -158,7 +208,7 @@ pub fn read(text: &str) -> Result<Example, String> {
     for (place, line) in text.lines().enumerate() {
         let said = line.split('#').next().unwrap_or_default().trim();
         if !said.is_empty() {
-            read_line(said, &mut names, &mut example)
+            read_line((place + 1, said), &mut names, &mut example)
                 .map_err(|error| format!("line {}: {error}", place + 1))?;
         }
     }
