@@ -3,7 +3,7 @@
 use mathlib.Core.Path.{_≡_, refl, sym, ap, _∙_, subst}
 use mathlib.Core.Logic.{_↔_}
 use mathlib.Core.Bool.{Bool, true, false, not}
-use mathlib.Core.List.{List, [], _∷_, _++_}
+use mathlib.Core.List.{List, _∷_, _++_}
 use Prim.Native.Nat.{ℕ, _+_, _≤_, _<_}
 use native.Mathlib.Omega.{arith}
 use lib.Dec.{T}
@@ -25,7 +25,7 @@ use Rattle.places.specs.Layout.{SIZE, encode}
 use Rattle.terms.specs.Profiles.{isEvery}
 use Rattle.terms.specs.Held.{_∈_, Held, holeIn, withMarks, withProfile, isQuestion}
 use Rattle.terms.specs.Limited.{InRange}
-use Rattle.refusals.specs.Refusals.{Test, test, tested}
+use Rattle.refusals.specs.Refusals.{test, tested}
 use Rattle.refusals.specs.Joining.{clash}
 use Rattle.refusals.specs.Ranks.{rank-number}
 use Rattle.logic.specs.Depths.{Derived}
@@ -43,10 +43,8 @@ use Rattle.moves.specs.Mirrored.{mirrored}
 use Rattle.charges.specs.declared.PriceLine.{PriceLine}
 use Rattle.charges.specs.declared.Charge.{Charge}
 use Rattle.charges.specs.declared.Charge.the-variants as Charge
-use Rattle.charges.specs.declared.Sum.{Sum}
 use Rattle.charges.specs.Lines.{linesOf, lineTests}
 use Rattle.charges.specs.Charges.{valueOf}
-use Rattle.charges.specs.Sums.{chargeOf}
 use Rattle.charging.proofs.Summing.{in-order}
 use Rattle.bills.specs.Billed.{asked}
 use Rattle.bills.specs.Bill.{bill}
@@ -55,7 +53,7 @@ use Rattle.bills.specs.Low.{total-low}
 use Rattle.bills.specs.Same.{bill-elsewhere, bill-profile-same}
 use Rattle.bills.specs.Moved.{bill-shifted, bill-mirrored}
 use Rattle.bills.specs.Ended.{Endless, bill-open, bill-in-hole, bill-in-profile}
-use Rattle.commands.specs.Buffers.{Buffers, After, short, isShortOr}
+use Rattle.commands.specs.Buffers.{Buffers, After, short}
 use Rattle.commands.specs.Code.{long, replied-is}
 use Rattle.commands.specs.Call.{filled, call, spanCall}
 use Rattle.questions.specs.Code.{spansAfter}
@@ -65,7 +63,6 @@ use Rattle.service.specs.Charging.{shown, chargeCall}
 use Rattle.claims.specs.Table.{Shifts}
 use Rattle.claims.specs.Reference.{Accepted}
 use Rattle.claims.specs.Beside.{spansRecord, unused, tablesOf, chargeRows}
-use Rattle.claims.specs.Memory.{Written-in}
 use Rattle.claims.specs.Exact.{feeding, Holding}
 use Rattle.claims.specs.Charging.{Charging, Exact-charge, Tables-kept}
 use Rattle.claims.specs.ChargeKeeps.{by-rows, charge-by-rows, charge-ranked}

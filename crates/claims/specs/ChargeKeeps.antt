@@ -5,7 +5,6 @@ use mathlib.Core.List.{List}
 use Prim.Native.Nat.{ℕ, _≤_}
 use Rattle.terms.specs.declared.Tested.{Tested}
 use Rattle.terms.specs.declared.Tested.the-variants as Tested
-use Rattle.terms.specs.Tests.{differ}
 use Rattle.terms.specs.Otherwise.{onTested}
 use Rattle.refusals.specs.Refusals.{rank, tested}
 use Rattle.block.specs.Block.{readHeld}

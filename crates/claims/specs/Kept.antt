@@ -42,7 +42,9 @@ pub use Rattle.decide.specs.Count.{fewer-ends, few-cuts}
 use Rattle.shift.specs.Shifted.{shifted, stays}
 use Rattle.moves.specs.Limits.{shift-limited}
 use Rattle.correction.specs.Changes.{shiftTests}
-use Rattle.state.specs.Changes.{listTests, ruleTests, roomTests, putTests, confineTests, restrictTests, addRule, putMark, takeMark}
+use Rattle.rules.specs.Changes.{listTests, ruleTests, addRule}
+use Rattle.marks.specs.Changes.{roomTests, putTests, putMark, takeMark}
+use Rattle.settings.specs.Changes.{confineTests, restrictTests}
 
 -- ---- a test that does not apply
 

@@ -16,7 +16,9 @@ use Rattle.terms.specs.Held.{Held, withCounting, withHole, withProfile, emptyHe
 use Rattle.refusals.specs.Refusals.{Test, test, tested}
 use Rattle.terms.specs.Otherwise.{onTested}
 use Rattle.shift.specs.Shifted.{shifted}
-use Rattle.state.specs.Changes.{ruleTests, putTests, takeTests, countTests, confineTests, restrictTests, addRule, putMark, takeMark}
+use Rattle.rules.specs.Changes.{ruleTests, addRule}
+use Rattle.marks.specs.Changes.{putTests, takeTests, putMark, takeMark}
+use Rattle.settings.specs.Changes.{countTests, confineTests, restrictTests}
 use Rattle.correction.specs.Changes.{shiftTests}
 use Rattle.block.specs.Block.{readHeld, good}
 use Rattle.places.specs.Layout.{SIZE, encode}

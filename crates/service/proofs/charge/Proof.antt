@@ -1,5 +1,4 @@
 -- All tests first; then the charge, on what the block holds.
-use mathlib.Core.Path.{sym, _∙_}
 use native.Mathlib.Omega.{arith}
 use borrow.Author.Needs.{needs}
 use Rattle.service.proofs.Lending.{charge-refused, lent-passes, lines-pass, item-low, charge-billed}
