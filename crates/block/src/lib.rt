@@ -1,4 +1,6 @@
 // The state block: loaded into a state and stored from one.
+#![tactic(auto)]
+
 ghost use Rattle.std.specs.Prelude.{◌≡◌, ◌++◌, ◌≤◌, length, take, drop};
 ghost use Rattle.codec.specs.Bytes.{put};
 ghost use Rattle.terms.specs.Limits.{RULES, MARKS};

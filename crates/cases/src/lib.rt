@@ -1,1 +1,3 @@
 // Definitions and theorems alone: the worked cases of the specification and of the change requests, one table and one theorem.
+#![tactic(auto)]
+

@@ -1,4 +1,6 @@
 // The work of a command on what is held: refused, stored, or answered.
+#![tactic(auto)]
+
 ghost use Rattle.std.specs.Prelude.{◌≡◌, ◌≤◌, T, length};
 ghost use Rattle.terms.specs.declared.Answer.TheVariants as Answer;
 ghost use Rattle.state.specs.State.{held_of, CountsIn, ChangeAs};

@@ -1,4 +1,6 @@
 // A stretch correction of what is held: all marks and the hole are moved, or none.
+#![tactic(auto)]
+
 ghost use Rattle.std.specs.Prelude.{T};
 ghost use Rattle.shift.specs.Shifted.{stays, shifted};
 ghost use Rattle.state.specs.State.{CountsIn, held_of, ChangeAs};

@@ -3,7 +3,6 @@ use Rattle.std.specs.Prelude.{Bool, true, false, cond, List, ℕ, ◌+◌, ◌-�
 use Rattle.codec.specs.Bytes.{little}
 use Rattle.refusals.specs.Refusals.{rank}
 use Rattle.frames.specs.declared.Lengths.{Lengths}
-use Rattle.frames.specs.declared.Lengths.TheVariants as Lengths
 
 -- 01, Records: a 2-byte length that counts kind and body, a 2-byte kind, then the body
 abbrev pub length_field : List ℕ → ℕ

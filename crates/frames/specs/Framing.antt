@@ -2,14 +2,11 @@
 use Rattle.std.specs.Prelude.{◌≡◌, refl, Bool, true, false, not, cond, List, [], ◌∷◌, ℕ, ◌+◌, ◌-◌, ◌≤◌, T, eqb, ltb, length}
 use Rattle.std.proofs.Common.{sym, ap, subst, arith, le-ltb, ltb-false, ne_eqb}
 use Rattle.terms.specs.declared.Tested.{Tested}
-use Rattle.terms.specs.declared.Tested.TheVariants as Tested
 use Rattle.terms.specs.Tests.{true_of}
 use Rattle.refusals.specs.Refusals.{Test, rank, test, tested}
 use Rattle.terms.specs.Otherwise.{on_tested}
 use Rattle.frames.specs.declared.Lengths.{Lengths}
-use Rattle.frames.specs.declared.Lengths.TheVariants as Lengths
 use Rattle.frames.specs.declared.Framed.{Framed}
-use Rattle.frames.specs.declared.Framed.TheVariants as Framed
 use Rattle.frames.specs.Frames.{length_field, kind_field, allows, is_unknown, lengths_of, used_for}
 
 -- 01, Where a record is turned away: frame

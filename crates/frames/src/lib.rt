@@ -1,4 +1,6 @@
 // The frame of a record: its length field and kind, and the lengths that each kind may have.
+#![tactic(auto)]
+
 ghost use Rattle.std.specs.Prelude.{◌≡◌};
 ghost use Rattle.refusals.specs.Refusals.{tested as testedBy};
 ghost use Rattle.frames.specs.Frames.{lengths_of};
@@ -23,6 +25,7 @@ pub enum Framed {
 }
 
 // The table of kinds: lengths.
+#[tactic(auto, unfolding(crate::specs::Frames::lengths_of))]
 fn lengths_of(kind: u16) -> Lengths
     ensures { result ≡ lengths_of kind }
 {

@@ -1,4 +1,6 @@
 // The service over standard input: a line for each record.
+#![tactic(auto)]
+
 ghost use Rattle.std.specs.Prelude.{◌≡◌, true, false, ◌≤◌, ◌<◌, length, take};
 ghost use Rattle.terms.specs.Pairs.{pair_count};
 ghost use Rattle.terms.specs.Limits.{SPAN_NUMBERS};

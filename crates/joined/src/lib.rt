@@ -1,4 +1,6 @@
 // Which items the held link marks join, and which a question concerns. Items of one class, those that are joined, have the same number.
+#![tactic(auto)]
+
 ghost use Rattle.std.specs.Prelude.{◌≡◌, ◌<◌, T, length, take};
 ghost use Rattle.terms.specs.Limits.{ITEMS};
 ghost use Rattle.terms.specs.Held.{is_markable, is_question};

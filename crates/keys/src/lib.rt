@@ -1,4 +1,6 @@
 // Keys, one number for each thing: where one stands, and how many are distinct.
+#![tactic(auto)]
+
 ghost use Rattle.std.specs.Prelude.{◌≡◌, ◌+◌, ◌≤◌, ◌<◌, eqb, length, drop};
 ghost use Rattle.terms.specs.Lists.{some, once};
 ghost use Rattle.keys.specs.Search.{index_of, distinct};

@@ -1,4 +1,6 @@
 // The program's lines as bytes in a buffer: what `specs/Lines.antt` says, laid from a place on.
+#![tactic(auto)]
+
 ghost use Rattle.std.specs.Prelude.{◌≡◌, ◌++◌, ◌+◌, ◌*◌, ◌≤◌, length, take};
 ghost use Rattle.terms.specs.Pairs.{pair_count};
 ghost use Rattle.terms.specs.Limits.{SPAN_NUMBERS};

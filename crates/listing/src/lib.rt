@@ -1,4 +1,6 @@
 // What the programs share: standard input read whole, and bytes written to standard output.
+#![tactic(auto)]
+
 ghost use Rattle.std.specs.Prelude.{◌≤◌, length};
 ghost use Rattle.io.specs.Counts.{IsPrefixLen};
 

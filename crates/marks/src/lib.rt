@@ -1,4 +1,6 @@
 // The changes of the list of marks, with their refusals: a mark put or taken.
+#![tactic(auto)]
+
 ghost use Rattle.std.specs.Prelude.{◌≡◌, ◌++◌, ◌+◌, ◌-◌, ◌≤◌, ◌<◌, T, take, drop};
 ghost use Rattle.terms.specs.Limits.{MARKS};
 ghost use Rattle.terms.specs.Held.{is_mark};

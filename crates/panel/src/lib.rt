@@ -1,4 +1,6 @@
 // The panel's calls, for a host program in C: one takes one record, and beside the records one asks for spans and one for a charge.
+#![tactic(auto)]
+
 ghost use Rattle.std.specs.Prelude.{◌≡◌};
 ghost use Rattle.commands.specs.Call.{call, span_call};
 ghost use Rattle.commands.specs.Buffers.{lent};

@@ -1,4 +1,6 @@
 // The bytes of a place of the state block, of a rule, a mark and the settings: read and written.
+#![tactic(auto)]
+
 ghost use Rattle.std.specs.Prelude.{◌≡◌, [], ◌∷◌, ◌+◌, ◌≤◌, length};
 ghost use Rattle.codec.specs.Bytes.{put};
 ghost use Rattle.places.specs.Layout.{counting_byte, profile_byte, settings_bytes, place_bytes, rule_bytes, ends_bytes, mark_bytes, SETTINGS_AT, SIZE};

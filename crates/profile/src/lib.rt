@@ -1,4 +1,6 @@
 // 02's print profile: which rules are in it, and which a profile that is off or on lets be held.
+#![tactic(auto)]
+
 ghost use Rattle.std.specs.Prelude.{◌≡◌};
 ghost use Rattle.terms.specs.Profiles.{is_printed, is_every, in_profile, admits};
 

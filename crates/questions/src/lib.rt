@@ -1,4 +1,6 @@
 // What every question goes through: both tables derived from what is held, a contradiction looked for, and else the answer read off them.
+#![tactic(auto)]
+
 ghost use Rattle.std.specs.Prelude.{◌≡◌, ◌≤◌, length, take, T};
 ghost use Rattle.terms.specs.Limits.{CUTS, LABEL_ENTRIES, LINK_ENTRIES};
 ghost use Rattle.terms.specs.Held.{is_question};

@@ -8,13 +8,11 @@ use lib.ListN.{length, take, drop, length-drop}
 use lib.Seq.{drop-drop, length-take-le}
 use Rattle.records.specs.declared.Command.{Command}
 use Rattle.records.specs.declared.Decoded.{Decoded}
-use Rattle.records.specs.declared.Decoded.TheVariants as Decoded
 use Rattle.frames.specs.declared.Framed.TheVariants as Framed
 use Rattle.records.specs.Records.{decode_body, parsed_body, parsed_frame, parse}
 use Rattle.frames.specs.Framing.{framed, FramedIn, framed_in}
 use Rattle.frames.specs.Frames.{length_field, body_of, lengths_of, allows}
 use Rattle.reader.specs.declared.Input.{Input}
-use Rattle.reader.specs.declared.Input.TheVariants as Input
 use Rattle.terms.specs.declared.Settings.{Settings}
 use Rattle.terms.specs.Tests.{differ}
 use Rattle.reader.specs.Code.{input_of, parsed_of, ParsedAs}

@@ -1,12 +1,9 @@
 -- What the parts of the reading say.
 use Rattle.std.specs.Prelude.{◌≡◌, List, ℕ}
 use Rattle.reader.specs.declared.Input.{Input}
-use Rattle.reader.specs.declared.Input.TheVariants as Input
 use Rattle.records.specs.declared.Command.{Command}
 use Rattle.records.specs.declared.Decoded.{Decoded}
-use Rattle.records.specs.declared.Decoded.TheVariants as Decoded
 use Rattle.records.specs.Parsed.{Parsed}
-use Rattle.records.specs.Parsed as Parsed
 use Rattle.records.specs.Records.{parse}
 use Rattle.frames.specs.Frames.{body_of}
 use Rattle.frames.specs.Framing.{FramedIn}

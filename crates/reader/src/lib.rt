@@ -1,5 +1,6 @@
-// 01, Records: a reader carries the input slice and how far it has read. The borrow checker covers no function over a struct that holds a
-// slice, so these few are thin and their proofs walk the code; `frame_at`, on slice and place, does the work.
+// 01, Records: a reader carries the input slice and how far it has read; `frame_at`, on slice and place, does the work.
+#![tactic(auto)]
+
 ghost use Rattle.std.specs.Prelude.{◌≡◌, drop};
 ghost use Rattle.frames.specs.Framing.{framed};
 ghost use Rattle.reader.specs.Code.{input_of, ParsedAs};

@@ -7,7 +7,6 @@ use lib.Dec.{T, eqb→eq}
 use Rattle.terms.specs.declared.OperatorRead.{OperatorRead}
 use Rattle.terms.specs.declared.OperatorRead.TheVariants.{Valid, Invalid}
 use Rattle.terms.specs.declared.Tested.{Tested}
-use Rattle.terms.specs.declared.Tested.TheVariants as Tested
 use Rattle.terms.specs.Otherwise.{read_tested, or_else}
 use Rattle.refusals.specs.Refusals.{test, tested}
 use Rattle.records.specs.Formats.{is_invalid}

@@ -9,7 +9,6 @@ use Rattle.terms.specs.declared.Rule.TheVariants.{Label, Both, Link, Via}
 use Rattle.terms.specs.declared.Atom.TheVariants.{Has, Linked}
 use Rattle.terms.specs.declared.Mark.{Mark}
 use Rattle.terms.specs.declared.Question.{Question}
-use Rattle.terms.specs.declared.Question.TheVariants as Question
 use Rattle.terms.specs.Countings.{is_counting, counting_of}
 use Rattle.terms.specs.Operators.{operator_of, or_identity}
 

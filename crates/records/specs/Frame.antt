@@ -5,7 +5,6 @@ use Rattle.codec.specs.Bytes.{little, bytes}
 use Rattle.terms.specs.declared.Settings.{Settings}
 use Rattle.terms.specs.declared.Tested.{Tested}
 use Rattle.frames.specs.declared.Framed.{Framed}
-use Rattle.frames.specs.declared.Framed.TheVariants as Framed
 use Rattle.frames.specs.Framing.{framed, framed_as, frame_kind, known}
 use Rattle.records.specs.Records.{decode_body, parsed_body, parsed_frame, parse}
 use Rattle.frames.specs.Frames.{length_field, kind_field, body_of, allows, lengths_of}

@@ -31,13 +31,9 @@ use Rattle.terms.specs.Same.{kind_of}
 use Rattle.refusals.specs.Refusals.{test, tested}
 use Rattle.terms.specs.Tests.{and_both, both_and}
 use Rattle.records.specs.declared.Command.{Command}
-use Rattle.records.specs.declared.Command.TheVariants as Command
 use Rattle.records.specs.declared.Decoded.{Decoded}
-use Rattle.records.specs.declared.Decoded.TheVariants as Decoded
 use Rattle.frames.specs.declared.Framed.{Framed}
-use Rattle.frames.specs.declared.Framed.TheVariants as Framed
 use Rattle.records.specs.Parsed.{Parsed}
-use Rattle.records.specs.Parsed as Parsed
 use Rattle.records.specs.Records.{
   operator_tests,
   mark_tests,

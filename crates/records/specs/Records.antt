@@ -12,11 +12,8 @@ use Rattle.terms.specs.Held.{is_named, is_markable, is_placed, is_ordered, is_qu
 use Rattle.refusals.specs.Refusals.{Test, test, tested}
 use Rattle.terms.specs.Otherwise.{on_tested}
 use Rattle.records.specs.declared.Command.{Command}
-use Rattle.records.specs.declared.Command.TheVariants as Command
 use Rattle.records.specs.declared.Decoded.{Decoded}
-use Rattle.records.specs.declared.Decoded.TheVariants as Decoded
 use Rattle.frames.specs.declared.Framed.{Framed}
-use Rattle.frames.specs.declared.Framed.TheVariants as Framed
 use Rattle.frames.specs.Framing.{framed}
 use Rattle.frames.specs.Frames.{body_of}
 use Rattle.records.specs.Formats.{
@@ -40,7 +37,6 @@ use Rattle.records.specs.Formats.{
   spans_question,
 }
 use Rattle.records.specs.Parsed.{Parsed}
-use Rattle.records.specs.Parsed as Parsed
 
 -- ---- 01, Where a record is turned away: body. Names are judged under the settings
 

@@ -1,4 +1,6 @@
 // Records: the table of kinds, and the decoder of each body.
+#![tactic(auto)]
+
 ghost use Rattle.std.specs.Prelude.{◌≡◌, not, [], ◌∷◌, ◌+◌, T, length};
 ghost use Rattle.terms.specs.Held.{is_named};
 ghost use Rattle.refusals.specs.Refusals.{test, tested as testedBy};
@@ -236,6 +238,7 @@ fn shift(body: &[u8]) -> Decoded
 }
 
 // The table of kinds: decoders. The frame lets no other kind come here.
+#[tactic(auto, unfolding(frames::specs::Frames::lengths_of, crate::specs::Records::body_tests, crate::specs::Records::command_in))]
 pub fn decode_body(settings: Settings, kind: u16, body: &[u8]) -> Decoded
     requires { T (allows (lengths_of kind) (length body.now + 2)) }
     ensures { result ≡ decode_body settings kind body.now }

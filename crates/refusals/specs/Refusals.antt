@@ -1,7 +1,6 @@
 -- The order of 01's refusals, rows of its table as tests, and what a list of tests comes to.
 use Rattle.std.specs.Prelude.{Bool, cond, List, [], ◌∷◌, ℕ, suc, eqb}
 use Rattle.terms.specs.declared.Tested.{Tested}
-use Rattle.terms.specs.declared.Tested.TheVariants as Tested
 
 -- 01, Where a record is turned away: the numbers in the order in which they are judged, with 02's where 02 puts them
 abbrev pub order : List ℕ

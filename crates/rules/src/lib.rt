@@ -1,4 +1,6 @@
 // The change of the list of rules, with its refusals: a rule added.
+#![tactic(auto)]
+
 ghost use Rattle.std.specs.Prelude.{◌≡◌, ◌<◌};
 ghost use Rattle.terms.specs.Limits.{RULES};
 ghost use Rattle.refusals.specs.Refusals.{tested as testedBy};

@@ -1,4 +1,6 @@
 // Scans of the rules and marks in their places, by keys.
+#![tactic(auto)]
+
 ghost use Rattle.std.specs.Prelude.{◌≡◌, ◌*◌, ◌≤◌, T, take};
 ghost use Rattle.terms.specs.Holes.{lies_in};
 ghost use Rattle.terms.specs.Profiles.{admits};

@@ -1,4 +1,6 @@
 // The service: one record, or one question or charge beside the records.
+#![tactic(auto)]
+
 ghost use Rattle.std.specs.Prelude.{◌≡◌, [], length, drop};
 ghost use Rattle.state.specs.State.{held_of};
 ghost use Rattle.records.specs.Records.{as_question, parsed_body};

@@ -1,4 +1,6 @@
 // The changes of the settings, with their refusals: the counting or the hole set, the profile switched on.
+#![tactic(auto)]
+
 ghost use Rattle.terms.specs.declared.Hole.TheVariants as Bored;
 ghost use Rattle.terms.specs.declared.Profile.TheVariants as Switched;
 ghost use Rattle.terms.specs.Held.{with_settings, with_counting, with_hole, with_profile};

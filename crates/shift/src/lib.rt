@@ -1,4 +1,6 @@
 // 02's cable zero: depths, marks and the hole moved by the same amount, and whether they stay in their range.
+#![tactic(auto)]
+
 ghost use Rattle.std.specs.Prelude.{◌≡◌, map, ◌≤◌, T, take};
 ghost use Rattle.terms.specs.Limits.{is_depth};
 ghost use Rattle.terms.specs.Lists.{every};

@@ -1,4 +1,6 @@
 // The spans of a label, written to the lent buffer.
+#![tactic(auto)]
+
 ghost use Rattle.std.specs.Prelude.{◌≡◌, [], ◌∷◌, pred, ◌+◌, ◌*◌, ◌≤◌, length, take};
 ghost use Rattle.terms.specs.HoleLaws.{line_of};
 ghost use Rattle.terms.specs.Spans.{run};

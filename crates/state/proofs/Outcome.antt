@@ -6,7 +6,6 @@ use Prim.Native.Nat.{ℕ, ◌<◌}
 use borrow.Author.Tests.{leb-false}
 use lib.Dec.{leb}
 use Rattle.terms.specs.declared.Tested.{Tested}
-use Rattle.terms.specs.declared.Tested.TheVariants as Tested
 use Rattle.terms.specs.Held.{Held}
 use Rattle.refusals.specs.Refusals.{Test, test, tested}
 use Rattle.refusals.specs.Joining.{clash}

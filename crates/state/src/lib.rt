@@ -1,11 +1,13 @@
 // What is held, by value: a fresh state, what a change of it answers, and the limits as a test.
+#![tactic(auto)]
+
 ghost use Rattle.std.specs.Prelude.{◌≡◌};
 ghost use Rattle.terms.specs.Lists.{limits};
 ghost use Rattle.state.specs.State.{CountsIn, held_of, empty_state};
 
 use terms::{DEPTHS, MARKS, Mark, RULES, RulePlace, Settings, Tested};
 
-#[derive(Drop)]
+#[derive(Clone, Copy)]
 pub struct State {
     pub rules: [RulePlace; RULES],
     pub rule_count: usize,

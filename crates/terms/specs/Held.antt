@@ -10,7 +10,6 @@ use Rattle.terms.specs.declared.Atom.{Atom}
 use Rattle.terms.specs.declared.Atom.TheVariants.{Has, Linked}
 use Rattle.terms.specs.declared.Mark.{Mark}
 use Rattle.terms.specs.declared.Question.{Question}
-use Rattle.terms.specs.declared.Question.TheVariants as Question
 use Rattle.terms.specs.declared.Counting.{Counting}
 use Rattle.terms.specs.declared.Counting.TheVariants.{Old}
 use Rattle.terms.specs.declared.Hole.{Hole}

@@ -3,7 +3,6 @@ use Rattle.std.specs.Prelude.{ℕ}
 use Rattle.terms.specs.declared.OperatorRead.{OperatorRead}
 use Rattle.terms.specs.declared.OperatorRead.TheVariants.{Valid, Invalid}
 use Rattle.terms.specs.declared.Tested.{Tested}
-use Rattle.terms.specs.declared.Tested.TheVariants as Tested
 
 -- one thing where no test applies, another by the number where one does
 abbrev pub on_tested : {A : Type 0} → A → (ℕ → A) → Tested → A

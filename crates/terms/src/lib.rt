@@ -1,4 +1,6 @@
 // The vocabulary: operators, countings, rules, marks, questions, the hole, the profile, settings, answers and the paper's limits.
+#![tactic(auto)]
+
 ghost use Rattle.std.specs.Prelude.{◌≡◌, cond, T, eqb};
 ghost use Rattle.std.specs.Int.Signed.{le_z};
 ghost use Rattle.terms.specs.Limits.{is_item, is_kind, is_left, is_concluded, is_marked, is_label, is_depth};
@@ -50,7 +52,7 @@ pub const NO_TOP: i32 = -2_147_483_648;
 pub const NO_BOTTOM: i32 = 2_147_483_647;
 
 // The constants above in one value, so that a contract ties each of them to the definitions.
-#[derive(Drop)]
+#[derive(Clone, Copy)]
 pub struct Limits {
     pub items: u8,
     pub labels: u8,
@@ -100,7 +102,7 @@ impl Limits {
 }
 
 // What the tests of a table of refusals come to: none applies, or the number of the first that does.
-#[derive(Drop)]
+#[derive(Clone, Copy)]
 pub enum Tested {
     Passed,
     Refused(u8),
@@ -174,7 +176,7 @@ pub fn is_depth(depth: i32) -> bool
 }
 
 // How WITHIN counts a distance: by the old counting it is less than n, by the new one at most n.
-#[derive(Drop)]
+#[derive(Clone, Copy)]
 pub enum Counting {
     Old,
     New,
@@ -211,7 +213,7 @@ impl Counting {
 }
 
 // An operator with its distance inside it.
-#[derive(Drop)]
+#[derive(Clone, Copy)]
 pub enum Operator {
     Within(u32),
     Between,
@@ -221,7 +223,7 @@ pub enum Operator {
 }
 
 // What a code and a distance are read as.
-#[derive(Drop)]
+#[derive(Clone, Copy)]
 pub enum OperatorRead {
     Valid(Operator),
     Invalid,
@@ -338,7 +340,7 @@ impl OperatorRead {
 }
 
 // A rule carries its operator. Left to right: premises, then the conclusion.
-#[derive(Drop)]
+#[derive(Clone, Copy)]
 pub enum Rule {
     Label(Operator, u8, u8),
     Both(u8, u8, u8),
@@ -392,7 +394,7 @@ impl Rule {
 }
 
 // A place of the rule list: an array holds structs, and these hold the enum.
-#[derive(Drop)]
+#[derive(Clone, Copy)]
 pub struct RulePlace {
     pub rule: Rule,
 }
@@ -405,7 +407,7 @@ impl RulePlace {
 }
 
 // A statement without its depth: an item has a label; a link leads from one item to another.
-#[derive(Drop)]
+#[derive(Clone, Copy)]
 pub enum Atom {
     Has(u8, u8),
     Linked(u8, u8, u8),
@@ -434,7 +436,7 @@ impl Atom {
 }
 
 // A question: whether a statement holds at a depth; where an item has a label.
-#[derive(Drop)]
+#[derive(Clone, Copy)]
 pub enum Question {
     Holds(Atom, i64),
     Spans(u8, u8),
@@ -466,7 +468,7 @@ pub fn at_or_below(end: i32, depth: i64) -> bool
 }
 
 // Which depths exist: all, where there is no hole, or those from a top to a bottom.
-#[derive(Drop)]
+#[derive(Clone, Copy)]
 pub enum Hole {
     Whole,
     Part(i32, i32),
@@ -524,7 +526,7 @@ impl Hole {
 }
 
 // A statement from a top to a bottom depth, true at each from one to the other.
-#[derive(Drop)]
+#[derive(Clone, Copy)]
 pub struct Mark {
     pub atom: Atom,
     pub top: i32,
@@ -569,14 +571,14 @@ impl Mark {
 }
 
 // Whether rules are held to the print profile. Which rules are in it is said in the crate `profile`.
-#[derive(Drop)]
+#[derive(Clone, Copy)]
 pub enum Profile {
     Off,
     On,
 }
 
 // What records set until RESET beside the lists.
-#[derive(Drop)]
+#[derive(Clone, Copy)]
 pub struct Settings {
     pub counting: Counting,
     pub hole: Hole,
@@ -606,7 +608,7 @@ pub fn wide(name: u8) -> usize
     name as usize
 }
 
-#[derive(Drop)]
+#[derive(Clone, Copy)]
 pub enum Answer {
     Done,
     Yes,

@@ -1,4 +1,6 @@
 // A square of 64 words of 64 bits, and its transpose.
+#![tactic(auto)]
+
 ghost use Rattle.std.specs.Prelude.{◌≡◌, ◌+◌, ◌%◌, ◌<◌, length};
 ghost use Rattle.transpose.specs.Transposed.{side, Stage, Exchanged, Span, Swapped, Transposed};
 

@@ -6,6 +6,8 @@
 //   3 FILL   u8 which memory, in the order above, u8 seed
 //   4 POKE   u16 place in the block, u8 value
 // A line: number, answer, bytes used, and a checksum of each memory, whole.
+#![tactic(auto)]
+
 mod fills;
 mod sums;
 

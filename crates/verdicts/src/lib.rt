@@ -1,4 +1,6 @@
 // What is read off the lent tables.
+#![tactic(auto)]
+
 ghost use Rattle.std.specs.Prelude.{◌≡◌, ◌<◌, ◌≤◌, T, length};
 ghost use Rattle.terms.specs.Held.{is_statement};
 ghost use Rattle.terms.specs.Limits.{ITEMS, INTERVALS, LABEL_ENTRIES, LINK_ENTRIES};

@@ -1,4 +1,6 @@
 // Bits of a 64-bit word.
+#![tactic(auto)]
+
 ghost use Rattle.std.specs.Prelude.{◌≡◌, ◌<◌};
 ghost use Rattle.words.specs.Bit.{bit_at, Ones, LowestBit, Length, Minus};
 

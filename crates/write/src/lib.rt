@@ -1,5 +1,7 @@
 // The lent tables, written from one store of rows. Rows are sets of intervals and entries are sets of
 // labels or link kinds, so squares of bits are transposed: 64 entries come from 64 words at a time.
+#![tactic(auto)]
+
 ghost use Rattle.std.specs.Prelude.{◌≡◌, ◌+◌, ◌*◌, ◌<◌, ◌≤◌, length};
 ghost use Rattle.terms.specs.Limits.{LABELS, KINDS, INTERVALS, LABEL_ENTRIES, LINK_ENTRIES};
 ghost use Rattle.store.specs.Numbers.{LINK_ROWS, STORE_WORDS};
