@@ -1,17 +1,17 @@
--- The digits that `io::decimal` promises are `decimal`, and the lengths of the texts, whatever the numbers. Assumes nothing.
+-- The digits that are stored one before the other are `decimal`, and the lengths of the texts, whatever the numbers. Assumes nothing.
 use mathlib.Core.Path.{◌≡◌, refl, sym, ap, ◌∙◌}
 use mathlib.Core.Bool.{Bool, true, false, cond}
 use mathlib.Core.List.{List, [], ◌∷◌, ◌++◌, append_assoc, append-nil}
 use Prim.Native.Nat.{ℕ, zero, suc, ◌+◌, ◌-◌, ◌*◌, ◌/◌, ◌%◌, ◌^◌, ◌≤◌, ◌<◌}
-use native.Mathlib.Nat.{lt_of_not-le, le_trans, one-le-pow, pow-suc, pow-le-pow_right}
+use native.Mathlib.Nat.{pow-suc}
 use native.Mathlib.Omega.{arith}
 use borrow.Author.Tests.{lt-ltb, le-ltb}
 use lib.Dec.{ltb}
 use lib.IntN.{ℤ, pos, negsuc}
-use lib.ListN.{length, take, get_or, length-append}
+use lib.ListN.{length, take, drop, set, get_or, length-append}
+use Rattle.std.proofs.lemmas.List.{drop-set}
 use mir.Syntax.{w32}
 use mir.Val.{SFits, of_z}
-use Rattle.io.specs.Digits.{hex_digit_ascii, last_digits, IsDigitCount}
 use Rattle.terms.specs.declared.Answer.{Answer}
 use Rattle.terms.specs.declared.Answer.TheVariants.{Done, Yes, No, Contradiction, Spans, End, Refused}
 use Rattle.terms.specs.Limits.{NO_TOP, NO_BOTTOM}
@@ -22,46 +22,42 @@ use Rattle.lines.specs.Lines.{codes, digits_up_to, decimal, signed, end_text, pa
 
 -- ---- digits
 
--- a digit below 10 is its own glyph
-glyph_low : (d : ℕ) → d < 10 → hex_digit_ascii d ≡ 48 + d
-glyph_low d l = rw (lt-ltb d 10 l)
-
--- as few digits as hold the number are those without a leading zero
-spelled : (k r n : ℕ) → r ≤ suc k → IsDigitCount 10 1 n r → last_digits 10 r n ≡ digits_up_to k n
+-- a number below 10 is its own last digit
+one_digit : (k n : ℕ) → n < 10 → digits_up_to k n ≡ (48 + n) ∷ []
 unfolding digits_up_to
-spelled k zero n l (a, b, c) = let z : ⊥ = omega (arith, a) in absurd z
-spelled zero (suc zero) n l f = ap (λ d. d ∷ []) (glyph_low (n % 10) (omega arith))
-spelled (suc k) (suc zero) n l (a, b, c) =
-    let low : n < 10 = b in
-    let same : n % 10 ≡ n = omega arith in
-    rw (same, lt-ltb n 10 low, digits_up_to)
-spelled zero (suc (suc j)) n l f = let z : ⊥ = omega arith in absurd z
-spelled (suc k) (suc (suc j)) n l (a, b, c) =
-    let e : suc (suc j) - 1 ≡ suc j = omega arith in
-    let least : 10 ^ suc j ≤ n = rw e at (c (omega arith)) in
-    let ten : 10 ≤ n = omega (arith, least, pow-suc 10 j, one-le-pow j 10 (omega arith)) in
-    let rest : last_digits 10 (suc j) (n / 10) ≡ digits_up_to k (n / 10) =
-    spelled k (suc j) (n / 10) (omega arith) (
-      omega arith,
-      omega (arith, b, pow-suc 10 (suc j)),
-      λ m.
-          let d : suc j - 1 ≡ j = omega arith in rw d (omega (arith, least, pow-suc 10 j)),
-    ) in
-    rw (rest, glyph_low (n % 10) (omega arith), le-ltb n 10 ten, digits_up_to)
+one_digit zero n low = let same : n % 10 ≡ n = omega arith in rw same
+one_digit (suc k) n low = rw (lt-ltb n 10 low, digits_up_to)
 
--- a number of 64 bits has at most 20 digits
-pub at_most_20 : (n r : ℕ) → n < 2 ^ 64 → IsDigitCount 10 1 n r → r ≤ 20
-at_most_20 n r fits f = let l : r < 21 = lt_of_not-le go in omega arith
-  where
-    go : 21 ≤ r → ⊥
-    go more =
-        let step : 20 ≤ r - 1 = omega arith in
-        let power : 10 ^ 20 ≤ 10 ^ (r - 1) = pow-le-pow_right (omega arith) step in
-        let whole : 10 ^ 20 ≤ n = le_trans power (f.2 (omega arith)) in
-        omega (arith, whole, fits)
+-- another has its last digit behind those of its tenth
+more_digits : (k n : ℕ) → 10 ≤ n → digits_up_to (suc k) n ≡ digits_up_to k (n / 10) ++ ((48 + n % 10) ∷ [])
+unfolding digits_up_to
+more_digits k n ten = rw (le-ltb n 10 ten, digits_up_to)
 
-pub decimal_is : (n r : ℕ) → n < 2 ^ 64 → IsDigitCount 10 1 n r → last_digits 10 r n ≡ decimal n
-decimal_is n r fits f = spelled 19 r n (at_most_20 n r fits f) f
+-- a number with a last digit and more has a place before it, and its tenth one place fewer
+pub tenth : (at rest : ℕ) → 10 ≤ rest → rest < 10 ^ (at + 1) → (0 < at) × (rest / 10 < 10 ^ (at - 1 + 1))
+tenth zero rest ten few = let z : ⊥ = omega arith in absurd z
+tenth (suc k) rest ten few =
+    let e : suc k + 1 ≡ suc (suc k) = omega arith in
+    let f : suc k - 1 + 1 ≡ suc k = omega arith in
+    let less : rest < 10 ^ suc (suc k) = rw e at few in
+    (omega arith, rw f (omega (arith, less, pow-suc 10 (suc k))))
+
+-- a digit stored before those that are there
+pub digit_stored :
+    (digits text : List ℕ) (at rest : ℕ) → 10 ≤ rest → 0 < at → at < length digits → digits_up_to at rest ++ drop (at + 1) digits ≡ text →
+    digits_up_to (at - 1) (rest / 10) ++ drop (at - 1 + 1) (set digits at (48 + rest % 10)) ≡ text
+digit_stored digits text zero rest ten low inside so = let z : ⊥ = omega arith in absurd z
+digit_stored digits text (suc k) rest ten low inside so =
+    let e : suc k - 1 ≡ k = omega arith in
+    let f : suc k - 1 + 1 ≡ suc k = omega arith in
+    rw (f, e, drop-set digits (suc k) (48 + rest % 10) inside)
+    (sym (append_assoc (digits_up_to k (rest / 10)) ((48 + rest % 10) ∷ []) _) ∙ rw (more_digits k rest ten) at so)
+
+-- and the first
+pub digits_stored :
+    (digits text : List ℕ) (at rest : ℕ) → rest < 10 → at < length digits → digits_up_to at rest ++ drop (at + 1) digits ≡ text →
+    drop at (set digits at (48 + rest)) ≡ text
+digits_stored digits text at rest low inside so = rw (drop-set digits at (48 + rest) inside) (rw (one_digit at rest low) at so)
 
 -- ---- lengths
 

@@ -1,7 +1,7 @@
 // The program's lines as bytes in a buffer: what `specs/Lines.antt` says, laid from a place on.
 #![tactic(auto)]
 
-ghost use Rattle.std.specs.Prelude.{◌≡◌, ◌++◌, ◌+◌, ◌*◌, ◌≤◌, length, take};
+ghost use Rattle.std.specs.Prelude.{◌≡◌, ◌++◌, ◌+◌, ◌*◌, ◌≤◌, length, take, drop};
 ghost use Rattle.terms.specs.Pairs.{pair_count};
 ghost use Rattle.terms.specs.Limits.{SPAN_NUMBERS};
 ghost use Rattle.lines.specs.Lines.{decimal, signed, end_text, pair_text, pairs_text, words, line_text, Laid};
@@ -26,8 +26,24 @@ pub fn put_number(out: &mut [u8], at: usize, n: u64) -> usize
     ensures { Laid (decimal n) out.old at out.new result }
 {
     let mut digits = [0u8; 20];
-    let k = io::decimal(n, &mut digits);
-    put_text(out, at, &digits[..k])
+    let first = decimal(n, &mut digits);
+    put_text(out, at, &digits[first..])
+}
+
+// Puts a number's digits at the end of the buffer and answers where they start.
+fn decimal(n: u64, digits: &mut [u8; 20]) -> usize
+    ensures first { result ≤ 19 }
+    ensures spelled { drop result digits.new ≡ decimal n }
+{
+    let mut at = 19;
+    let mut rest = n;
+    while rest >= 10 {
+        digits[at] = b'0' + (rest % 10) as u8;
+        rest /= 10;
+        at -= 1;
+    }
+    digits[at] = b'0' + rest as u8;
+    at
 }
 
 // A depth in decimal, with its sign.
@@ -53,6 +69,7 @@ pub fn put_counted(out: &mut [u8], at: usize, word: &[u8], n: u64) -> usize
 }
 
 // The words of an answer, without the pairs of spans.
+#[tactic(auto, unfolding(crate::specs::Lines::words))]
 pub fn put_answer(out: &mut [u8], at: usize, a: Answer) -> usize
     requires { at + 36 ≤ length out.old }
     ensures { Laid (words a) out.old at out.new result }

@@ -1,0 +1,18 @@
+-- The loop has read the first i marks into the first i places.
+use mathlib.Core.Path.{refl}
+use native.Mathlib.Omega.{arith}
+use lib.ListN.{length-set}
+use Rattle.block.specs.Block.{tab}
+use Rattle.block.specs.Places.{mark_from}
+use Rattle.block.proofs.Tab.{tab_more}
+use Rattle.block.proofs.load_marks.Goals as goal
+
+pub loop-i-init : goal.loop-i-init
+unfolding tab
+loop-i-init c = (omega arith, refl, refl)
+
+pub loop-i-preserved : goal.loop-i-preserved
+loop-i-preserved c =
+    let l = c.loop-i in
+    let a = c.args in
+    (omega arith, simp length-set l.invariant.1, tab_more (mark_from a.b.now) l.out l.i _ (omega arith) l.invariant.2 c.mark_at.ensures)
