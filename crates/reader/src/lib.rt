@@ -41,7 +41,7 @@ pub fn next<'a>(r: Reader<'a>) -> Framed
 
 // The frame at a place of the input, for callers that hold slice and place themselves.
 pub fn read(src: &[u8], at: usize) -> Framed
-    ensures { result ≡ framed (drop at src.now) }
+    ensures there { result ≡ framed (drop at src.now) }
 {
     next(from(src, at))
 }
