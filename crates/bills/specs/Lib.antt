@@ -1,10 +1,2 @@
 pub mod Billed
-pub mod Bill
-pub mod Totals
-pub mod Exact
-pub mod Low
-pub mod Same
-pub mod Moved
-pub mod Ended
 pub mod Rows
-pub mod Worked

@@ -29,7 +29,7 @@ use Rattle.places.specs.Layout.{
   padded,
   encode,
 }
-use Rattle.places.specs.Sizes.{settings_size, rule_size, mark_size, length_zeros}
+use Rattle.places.proofs.Sizes.{settings_size, rule_size, mark_size, length_zeros}
 use Rattle.block.specs.Places.{place_bytes_of}
 use Rattle.block.proofs.Tab.{cat_map, length_cat}
 

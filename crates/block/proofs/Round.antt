@@ -32,12 +32,12 @@ use Rattle.terms.specs.declared.Settings.{Settings}
 use Rattle.terms.specs.Limits.{RULES, MARKS, is_depth}
 use Rattle.terms.specs.Holes.{is_hole}
 use Rattle.terms.specs.Operators.{operator_of, code_of, distance_of, is_operator, or_identity}
-use Rattle.terms.specs.Readings.{operator_read, distance_fits, depth_fits}
+use Rattle.terms.proofs.Readings.{operator_read, distance_fits, depth_fits}
 use Rattle.terms.specs.Held.{Held, fresh_settings, is_named, is_rule, is_mark, empty_held}
-use Rattle.terms.specs.Ends.{top_placed, bottom_placed}
+use Rattle.terms.proofs.Ends.{top_placed, bottom_placed}
 use Rattle.terms.specs.Places.{empty_mark}
 use Rattle.terms.specs.Lists.{every, limits}
-use Rattle.terms.specs.Limited.{Limited, limited}
+use Rattle.terms.proofs.Limited.{Limited, limited}
 use Rattle.places.specs.Layout.{
   counting_byte,
   profile_byte,
@@ -59,7 +59,7 @@ use Rattle.places.specs.Layout.{
   padded,
   encode,
 }
-use Rattle.places.specs.Sizes.{settings_length, settings_size, rule_size, mark_size, length_padded}
+use Rattle.places.proofs.Sizes.{settings_length, settings_size, rule_size, mark_size, length_padded}
 use Rattle.places.specs.Read.{counting_from, hole_from, profile_from, settings_at, rule_of, rule_read, mark_of, mark_read}
 use Rattle.block.specs.Block.{tab, read_held, same_bytes, unreadable, holds, good, decode}
 use Rattle.block.proofs.Tab.{tab_is, cat_get, length_cat}

@@ -1,11 +1,1 @@
-pub mod Count
 pub mod Decides
-pub mod Derives
-pub mod Answer
-pub mod Unique
-pub mod Decide
-pub mod Sentences
-pub mod Verdicts
-pub mod Local
-pub mod SpanBuffer
-pub mod Switched

@@ -13,21 +13,21 @@ use Rattle.terms.specs.Pairs.{pair_count}
 use Rattle.terms.specs.Limits.{LABEL_ENTRIES, LINK_ENTRIES, SPAN_NUMBERS}
 use Rattle.refusals.specs.Refusals.{rank, Test, test}
 use Rattle.terms.specs.Held.{◌∈◌, Held, empty_held}
-use Rattle.terms.specs.Limited.{Limited, of_limited}
+use Rattle.terms.proofs.Limited.{Limited, of_limited}
 use Rattle.places.specs.Layout.{SIZE, encode}
-use Rattle.places.specs.Sizes.{length_zeros}
+use Rattle.places.proofs.Sizes.{length_zeros}
 use Rattle.block.specs.Block.{read_held, good}
 use Rattle.records.specs.Records.{parse}
 use Rattle.commands.specs.Call.{judged, effect, call}
 use Rattle.commands.specs.Buffers.{Buffers, lent, short}
-use Rattle.claims.specs.Kept.{empty_limited}
+use Rattle.claims.proofs.Kept.{empty_limited}
 use Rattle.claims.specs.Lives.{Lending, lent_to, fed}
-use Rattle.claims.specs.Told.{outcome}
-use Rattle.claims.specs.Life.{Then, call_then}
-use Rattle.claims.specs.Whole.{laws}
-use Rattle.claims.specs.Lent.{call_lent}
-use Rattle.claims.specs.Ascending.{in_range}
-use Rattle.claims.specs.Refused.{rows_ascend, refused_lowest, two_by_block}
+use Rattle.claims.proofs.Told.{outcome}
+use Rattle.claims.proofs.Life.{Then, call_then}
+use Rattle.claims.proofs.Whole.{laws}
+use Rattle.claims.proofs.Lent.{call_lent}
+use Rattle.claims.proofs.Ascending.{in_range}
+use Rattle.claims.proofs.Refused.{rows_ascend, refused_lowest, two_by_block}
 use Rattle.claims.specs.Table.{input_rows}
 use Rattle.harmikse.specs.Program.{fresh, Reaches, begun, handled}
 use Rattle.harmikse.specs.Uses.{Within, record_uses}

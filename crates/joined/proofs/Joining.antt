@@ -15,12 +15,12 @@ use Rattle.terms.specs.declared.Mark.{Mark}
 use Rattle.terms.specs.declared.Question.{Question}
 use Rattle.terms.specs.Limits.{ITEMS}
 use Rattle.terms.specs.Held.{is_markable}
-use Rattle.terms.specs.Names.{link_names}
+use Rattle.terms.proofs.Names.{link_names}
 use Rattle.terms.specs.Places.{empty_mark}
 use Rattle.terms.specs.Lists.{some}
 use Rattle.logic.specs.Joined.{about}
 use Rattle.logic.specs.Classes.{joined_by, joined_b}
-use Rattle.logic.specs.ClassLaws.{joined_next}
+use Rattle.logic.proofs.ClassLaws.{joined_next}
 use Rattle.joined.specs.Joining.{Filled, class_of, same_class, renamed_to, Merged, WithStatement, Classes, Either, Concerned}
 
 -- ---- filled one by one

@@ -1,3 +1,7 @@
+pub mod Counts
+pub mod IntervalLaws
+pub mod Intervals
+pub mod Numbered
 pub mod Places
 pub mod Putting
 pub mod Marking

@@ -17,7 +17,7 @@ use Rattle.terms.specs.declared.Answer.TheVariants.{Done, Yes, No, Contradiction
 use Rattle.terms.specs.Limits.{NO_TOP, NO_BOTTOM}
 use Rattle.terms.specs.Tests.{true_of, false_of}
 use Rattle.terms.specs.Same.{same_depth}
-use Rattle.terms.specs.SameLaws.{same_depth_lem, depth_same}
+use Rattle.terms.proofs.SameLaws.{same_depth_lem, depth_same}
 use Rattle.lines.specs.Lines.{codes, digits_up_to, decimal, signed, end_text, pair_text, pairs_text, words}
 
 -- ---- digits

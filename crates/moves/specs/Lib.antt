@@ -1,14 +1,3 @@
 pub mod Mirrored
 pub mod Answers
-pub mod Moves
-pub mod Motions
-pub mod Mapped
-pub mod Derived
-pub mod Steady
-pub mod Ends
-pub mod Runs
-pub mod Moved
-pub mod Limits
-pub mod Accepted
 pub mod Rows
-pub mod Worked

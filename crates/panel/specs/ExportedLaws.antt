@@ -16,7 +16,7 @@ use Rattle.records.specs.Records.{decoded_as, as_question, parsed_body}
 use Rattle.decide.specs.Decides.{Spans}
 use Rattle.commands.specs.Call.{judged, on_lent, span_call}
 use Rattle.commands.specs.Buffers.{Buffers, After, after}
-use Rattle.claims.specs.SpanRecord.{span_as_record}
+use Rattle.claims.proofs.SpanRecord.{span_as_record}
 use Rattle.charges.specs.declared.Charge.{Charge}
 use Rattle.charges.specs.Charges.{total_or}
 use Rattle.service.specs.Tables.{Tables, AfterCharge, after_charge}

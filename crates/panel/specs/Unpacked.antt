@@ -7,14 +7,14 @@ use Rattle.terms.specs.declared.Answer.TheVariants.{Done, Yes, No, Contradiction
 use Rattle.terms.specs.Answers.{number_of, value_of}
 use Rattle.commands.specs.Buffers.{Buffers}
 use Rattle.commands.specs.Call.{call, span_call}
-use Rattle.claims.specs.Values.{call_value, span_value}
+use Rattle.claims.proofs.Values.{call_value, span_value}
 use Rattle.charges.specs.declared.Charge.{Charge}
 use Rattle.charges.specs.declared.Charge.TheVariants as Charge
 use Rattle.charges.specs.Charges as Charges
 use Rattle.charges.specs.Charges.{total_or}
 use Rattle.service.specs.Tables.{Tables}
 use Rattle.service.specs.Charging.{charge_call}
-use Rattle.claims.specs.Charge.{charge_value, charge_low}
+use Rattle.claims.proofs.Charge.{charge_value, charge_low}
 use Rattle.panel.specs.Exported.{halves, packed, Unpacked, packed_charge, UnpackedCharge}
 
 -- 01, Records: six answers, and a refusal

@@ -7,17 +7,17 @@ use lib.IntN.{ℤ}
 use lib.ListN.{length, take}
 use Rattle.terms.specs.Limits.{CUTS}
 use Rattle.terms.specs.Held.{hole_in, ends_of, is_rule}
-use Rattle.terms.specs.Ends.{ends_placed}
+use Rattle.terms.proofs.Ends.{ends_placed}
 use Rattle.terms.specs.Places.{MarksNamed, rules_in, rule_at}
-use Rattle.line.specs.Intervals.{cuts_of}
+use Rattle.line.proofs.Intervals.{cuts_of}
 use Rattle.line.specs.Code.{CutsIn, LowCuts, NowCuts, held_cuts, low_cuts}
 use Rattle.state.specs.declared.State.{State}
 use Rattle.state.specs.State.{held_of}
 use Rattle.state.specs.Holding.{marks_named}
 use Rattle.tables.specs.Seeded.{ListsIn}
-use Rattle.terms.specs.Limited.{InRange, Limited, limited, in_range, every_in}
+use Rattle.terms.proofs.Limited.{InRange, Limited, limited, in_range, every_in}
 use Rattle.steps.specs.Places.{rule_in_places}
-use Rattle.decide.specs.Count.{few_cuts}
+use Rattle.decide.proofs.Count.{few_cuts}
 use Rattle.questions.specs.Code.{HeldState}
 
 module _ (s : State) (H : HeldState s) where

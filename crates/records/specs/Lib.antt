@@ -3,4 +3,3 @@ pub mod Parsed
 pub mod Records
 pub mod Frame
 pub mod Proper
-pub mod Either

@@ -22,11 +22,11 @@ use Rattle.terms.specs.declared.Settings.{Settings}
 use Rattle.terms.specs.Countings.{is_counting}
 use Rattle.terms.specs.Counted.{counting_number}
 use Rattle.terms.specs.Operators.{operator_of, code_of, distance_of, is_operator, or_identity}
-use Rattle.terms.specs.Readings.{ProperRead, read_proper, operator_read, distance_fits, depth_fits}
+use Rattle.terms.proofs.Readings.{ProperRead, read_proper, operator_read, distance_fits, depth_fits}
 use Rattle.terms.specs.Limits.{NO_TOP, NO_BOTTOM, is_depth}
 use Rattle.terms.specs.Holes.{is_hole}
 use Rattle.terms.specs.Held.{is_named, is_rule, is_mark, is_markable, is_placed, is_ordered, is_question}
-use Rattle.terms.specs.Ends.{top_placed, bottom_placed}
+use Rattle.terms.proofs.Ends.{top_placed, bottom_placed}
 use Rattle.terms.specs.Same.{kind_of}
 use Rattle.refusals.specs.Refusals.{test, tested}
 use Rattle.terms.specs.Tests.{and_both, both_and}

@@ -18,12 +18,12 @@ use Rattle.terms.specs.declared.Mark.{Mark}
 use Rattle.terms.specs.Operators.{code_of, distance_of}
 use Rattle.terms.specs.Tests.{and_both, both_and, of_true}
 use Rattle.terms.specs.Limits.{SHALLOWEST, DEEPEST, is_depth}
-use Rattle.terms.specs.Readings.{bits_one}
+use Rattle.terms.proofs.Readings.{bits_one}
 use Rattle.terms.specs.Same.{same_rule, same_operator, same_mark, same_depth, kind_of, first_of, second_of, third_of}
 use Rattle.terms.specs.Held.{operator_in, is_markable}
-use Rattle.terms.specs.Ends.{mark_markable, top_placed, bottom_placed}
-use Rattle.terms.specs.Names.{label_names, link_names, markable_statement}
-use Rattle.terms.specs.SameLaws.{same_rule_lem, same_mark_lem, mark_same, same_depth_lem, depth_same}
+use Rattle.terms.proofs.Ends.{mark_markable, top_placed, bottom_placed}
+use Rattle.terms.proofs.Names.{label_names, link_names, markable_statement}
+use Rattle.terms.proofs.SameLaws.{same_rule_lem, same_mark_lem, mark_same, same_depth_lem, depth_same}
 use Rattle.scans.specs.Keys.{packed_fields, tag_of, rule_key, depth_key, ATOM_ROOM, END_ROOM, atom_number, end_number, mark_key}
 use Rattle.scans.specs.Keys.{Bytes, ByteRule, MarkFits, DepthFits}
 use Rattle.terms.specs.Tests.{same_test}

@@ -14,7 +14,7 @@ use mir.ValLaws.{to_z-of_z}
 use Rattle.terms.specs.declared.Mark.{Mark}
 use Rattle.terms.specs.declared.RulePlace.{RulePlace}
 use Rattle.terms.specs.Held.{ends_of}
-use Rattle.terms.specs.Ends.{ends_append}
+use Rattle.terms.proofs.Ends.{ends_append}
 use Rattle.terms.specs.Places.{rules_in}
 use Rattle.terms.specs.Same.{same_depth}
 use Rattle.terms.specs.Lists.{some, once, depth_count}

@@ -13,7 +13,7 @@ use Rattle.terms.specs.declared.Tested.{Tested}
 use Rattle.terms.specs.declared.Tested.TheVariants as Tested
 use Rattle.terms.specs.Tests.{and_both, of_true, differ}
 use Rattle.refusals.specs.Refusals.{test, tested}
-use Rattle.refusals.specs.Joining.{clash, tested_append}
+use Rattle.refusals.proofs.Joining.{clash, tested_append}
 use Rattle.terms.specs.Otherwise.{or_else, on_tested}
 use Rattle.terms.specs.Limits.{ITEMS, SPAN_NUMBERS}
 use Rattle.terms.specs.Held.{Held, is_question}
@@ -40,7 +40,7 @@ use Rattle.commands.specs.Code.{long}
 use Rattle.charges.specs.declared.Charge.{Charge}
 use Rattle.charges.specs.declared.Charge.TheVariants as Charge
 use Rattle.charges.specs.Lines.{lines_of, line_tests}
-use Rattle.bills.specs.Bill.{bill}
+use Rattle.bills.proofs.Bill.{bill}
 use Rattle.charging.specs.Code.{BilledAs}
 use Rattle.charging.proofs.Summing.{in_order}
 use Rattle.service.specs.Tables.{Tables, tables, AfterCharge, after_charge, in_line}

@@ -8,7 +8,7 @@ use lib.Dec.{leb}
 use Rattle.terms.specs.declared.Tested.{Tested}
 use Rattle.terms.specs.Held.{Held}
 use Rattle.refusals.specs.Refusals.{Test, test, tested}
-use Rattle.refusals.specs.Joining.{clash}
+use Rattle.refusals.proofs.Joining.{clash}
 use Rattle.terms.specs.Otherwise.{on_tested}
 use Rattle.state.specs.declared.State.{State}
 use Rattle.state.specs.State.{ChangeAs}

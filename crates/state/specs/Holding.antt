@@ -6,7 +6,7 @@ use Rattle.terms.specs.Limits.{RULES, MARKS}
 use Rattle.terms.specs.Held.{Held, is_mark, empty_held}
 use Rattle.terms.specs.Places.{empty_mark, empty_place, rules_in, MarksNamed}
 use Rattle.terms.specs.Lists.{every}
-use Rattle.terms.specs.Limited.{every_in}
+use Rattle.terms.proofs.Limited.{every_in}
 use Rattle.state.specs.declared.State.{State}
 use Rattle.state.specs.State.{held_of, empty_state, CountsIn}
 

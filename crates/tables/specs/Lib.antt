@@ -1,10 +1,5 @@
 pub mod Shows
 pub mod Saturate
-pub mod SaturateLaws
 pub mod Executed
-pub mod ExecutedLaws
 pub mod Tables
-pub mod TableLaws
-pub mod Bridge
-pub mod Shown
 pub mod Seeded

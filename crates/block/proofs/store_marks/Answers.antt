@@ -7,7 +7,7 @@ use lib.ListN.{length, get_or}
 use Rattle.codec.specs.Bytes.{put}
 use Rattle.codec.proofs.Laws.{put_nil}
 use Rattle.places.specs.Layout.{mark_bytes, cat, MARK_BYTES, MARKS_AT}
-use Rattle.places.specs.Sizes.{mark_size}
+use Rattle.places.proofs.Sizes.{mark_size}
 use Rattle.block.proofs.Tab.{lay_more}
 use Rattle.std.proofs.Common.{rules}
 use Rattle.block.proofs.store_marks.Goals as goal

@@ -7,7 +7,7 @@ use lib.ListN.{length, get_or}
 use Rattle.codec.specs.Bytes.{put}
 use Rattle.codec.proofs.Laws.{put_nil}
 use Rattle.places.specs.Layout.{cat, HEADER, RULE_BYTES}
-use Rattle.places.specs.Sizes.{rule_size}
+use Rattle.places.proofs.Sizes.{rule_size}
 use Rattle.block.specs.Places.{place_bytes_of}
 use Rattle.block.proofs.Tab.{lay_more}
 use Rattle.std.proofs.Common.{rules}

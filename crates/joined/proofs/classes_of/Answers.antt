@@ -2,7 +2,7 @@
 use mathlib.Core.Path.{refl}
 use native.Mathlib.Omega.{arith}
 use lib.ListN.{get_or}
-use Rattle.terms.specs.Ends.{mark_markable, mark_named}
+use Rattle.terms.proofs.Ends.{mark_markable, mark_named}
 use Rattle.terms.specs.Places.{empty_mark}
 use Rattle.joined.proofs.Joining.{classes_none, classes_more}
 use Rattle.joined.proofs.classes_of.Goals as goal

@@ -7,7 +7,7 @@ use Rattle.terms.specs.declared.Atom.{Atom}
 use Rattle.terms.specs.declared.Question.{Question}
 use Rattle.terms.specs.Limits.{ITEMS, LABELS}
 use Rattle.terms.specs.Held.{is_statement, is_question}
-use Rattle.terms.specs.Names.{label_names, names_of_label, names_of_link}
+use Rattle.terms.proofs.Names.{label_names, names_of_label, names_of_link}
 use Rattle.logic.specs.Joined.{about}
 use Rattle.joined.proofs.Joining.{concerned_one, concerned_two}
 use Rattle.joined.proofs.concerned.Goals as goal

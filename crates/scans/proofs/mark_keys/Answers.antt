@@ -5,7 +5,7 @@ use native.Mathlib.Omega.{arith}
 use lib.ListN.{length, length-set}
 use Rattle.scans.specs.Keys.{mark_key, MarkFits}
 use Rattle.keys.proofs.Scan.{take_more}
-use Rattle.terms.specs.Ends.{mark_named}
+use Rattle.terms.proofs.Ends.{mark_named}
 use Rattle.scans.proofs.Keyed.{keys_none, keys_more}
 use Rattle.scans.proofs.mark_keys.Goals as goal
 

@@ -3,8 +3,8 @@ use mathlib.Core.Path.{◌≡◌}
 use native.Mathlib.Omega.{arith}
 use mir.Facts.{to_z-of_z}
 use lib.ListN.{length, take}
-use Rattle.terms.specs.Ends.{in_take}
-use Rattle.terms.specs.Limited.{every_in}
+use Rattle.terms.proofs.Ends.{in_take}
+use Rattle.terms.proofs.Limited.{every_in}
 use Rattle.keys.proofs.Scan.{length_of_map}
 use Rattle.shift.specs.Shifted.{mark_stays}
 use Rattle.std.proofs.Common.{rules}

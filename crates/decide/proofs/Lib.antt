@@ -1,0 +1,10 @@
+pub mod Answer
+pub mod Count
+pub mod Decide
+pub mod Derives
+pub mod Local
+pub mod Sentences
+pub mod SpanBuffer
+pub mod Switched
+pub mod Unique
+pub mod Verdicts

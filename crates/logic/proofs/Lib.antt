@@ -1,0 +1,12 @@
+pub mod Chains
+pub mod ClassLaws
+pub mod Entailed
+pub mod Follows
+pub mod Inside
+pub mod Local
+pub mod Nearness
+pub mod PrintedLaws
+pub mod Sets
+pub mod Transfer
+pub mod Unconcerned
+pub mod Unprinted

@@ -1,0 +1,11 @@
+pub mod Accepted
+pub mod Derived
+pub mod Ends
+pub mod Limits
+pub mod Mapped
+pub mod Motions
+pub mod Moved
+pub mod Moves
+pub mod Runs
+pub mod Steady
+pub mod Worked
