@@ -23,14 +23,14 @@ use Rattle.logic.specs.Printed.{Profiled}
 use Rattle.logic.proofs.PrintedLaws.{derived_within}
 use Rattle.spans.proofs.Longest.{ordered_in}
 use Rattle.decide.specs.Decides.{Never}
-use Rattle.decide.proofs.Answer.{answer}
+use Rattle.decide.specs.Answer.{answer}
 use Rattle.decide.proofs.Decide.{spans_exactly}
 use Rattle.moves.proofs.Steady.{Finite}
 use Rattle.charges.specs.declared.PriceLine.{PriceLine}
 use Rattle.charges.specs.declared.Charge.TheVariants as Charge
 use Rattle.charges.specs.Costs.{Open}
 use Rattle.bills.specs.Billed.{asked}
-use Rattle.bills.proofs.Bill.{spans_in, bill}
+use Rattle.bills.specs.Bill.{spans_in, bill}
 use Rattle.bills.proofs.Exact.{told, bill_charged}
 
 -- ---- open, by depths

@@ -17,7 +17,7 @@ use Rattle.logic.specs.Depths.{Derived}
 use Rattle.logic.specs.Joined.{Concerns}
 use Rattle.spans.proofs.Longest.{ordered_in, longest_one}
 use Rattle.decide.specs.Decides.{Spans, Reply, Contradiction, Answered, Never, InAll}
-use Rattle.decide.proofs.Answer.{answer}
+use Rattle.decide.specs.Answer.{answer}
 use Rattle.decide.proofs.Decide.{contradiction_item, contradiction_exactly, spans_exactly, clear_spans}
 use Rattle.decide.proofs.Sentences.{Contradicted, some_never, none_satisfies, spans_in_all, spans_longest}
 use Rattle.charges.specs.declared.PriceLine.{PriceLine}
@@ -27,7 +27,7 @@ use Rattle.charges.specs.declared.Charge.TheVariants as Charge
 use Rattle.charges.specs.Costs.{costs, Open}
 use Rattle.charges.specs.Sums.{nothing, is_open, with_lines, charge_of}
 use Rattle.bills.specs.Billed.{Billed, no_lines, line, SomeOpen, ChargesBy, asked, Contradicts, Charged}
-use Rattle.bills.proofs.Bill.{spans_in, spans_of, summed, unless_clash, bill}
+use Rattle.bills.specs.Bill.{spans_in, spans_of, summed, unless_clash, bill}
 use Rattle.bills.proofs.Totals.{open_passes, passes_open, costs_of, some_open, lines_charge}
 
 -- ---- the charge by the longest runs of a set for each label

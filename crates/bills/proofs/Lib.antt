@@ -1,4 +1,3 @@
-pub mod Bill
 pub mod Ended
 pub mod Exact
 pub mod Low

@@ -19,7 +19,7 @@ use Rattle.terms.specs.Spans.{Run, Ordered, Longest}
 use Rattle.spans.proofs.Longest.{ordered_in}
 use Rattle.decide.specs.Decides.{Yes, No, Spans, Reply, Contradiction, Answered}
 use Rattle.decide.proofs.Unique.{clash}
-use Rattle.decide.proofs.Answer.{answer}
+use Rattle.decide.specs.Answer.{answer}
 use Rattle.decide.proofs.Decide.{spans_exactly}
 use Rattle.shift.specs.Shifted.{shifted}
 use Rattle.moves.specs.Mirrored.{mirrored}
@@ -36,7 +36,7 @@ use Rattle.charges.specs.declared.Charge.{Charge}
 use Rattle.charges.specs.declared.Charge.TheVariants as Charge
 use Rattle.charges.specs.Costs.{centimetres, cost, costs}
 use Rattle.charges.specs.Sums.{nothing, is_open, with_span, with_spans, with_lines, charge_of}
-use Rattle.bills.proofs.Bill.{spans_in, spans_of, summed, unless_clash, bill}
+use Rattle.bills.specs.Bill.{spans_in, spans_of, summed, unless_clash, bill}
 use Rattle.bills.proofs.Totals.{or_comm, plus_swap, spans_sum}
 
 -- ---- spans that are charged alike

@@ -8,13 +8,13 @@ use Rattle.terms.specs.Limits.{EVERY}
 use Rattle.terms.specs.Held.{Held, with_marks, with_profile}
 use Rattle.terms.proofs.Limited.{InRange}
 use Rattle.logic.specs.Untouched.{Untouched}
-use Rattle.decide.proofs.Answer.{answer}
+use Rattle.decide.specs.Answer.{answer}
 use Rattle.decide.proofs.Local.{locality}
 use Rattle.decide.proofs.Switched.{profile_answers}
 use Rattle.charges.specs.declared.PriceLine.{PriceLine}
 use Rattle.charges.specs.Sums.{nothing, with_lines, charge_of}
 use Rattle.bills.specs.Billed.{asked}
-use Rattle.bills.proofs.Bill.{spans_in, unless_clash, bill}
+use Rattle.bills.specs.Bill.{spans_in, unless_clash, bill}
 use Rattle.bills.proofs.Exact.{concerns_asked}
 
 -- the bill goes by the replies for the item's spans alone

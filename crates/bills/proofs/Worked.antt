@@ -10,11 +10,11 @@ use Rattle.logic.specs.Classes.{joined_b}
 use Rattle.refusals.specs.Refusals.{tested}
 use Rattle.tables.specs.Executed.{model}
 use Rattle.spans.specs.Runs.{runs}
-use Rattle.decide.proofs.Answer.{answer}
+use Rattle.decide.specs.Answer.{answer}
 use Rattle.charges.specs.Lines.{line_tests}
 use Rattle.charges.specs.Sums.{with_lines}
 use Rattle.bills.specs.Billed.{Charged}
-use Rattle.bills.proofs.Bill.{bill}
+use Rattle.bills.specs.Bill.{bill}
 use Rattle.bills.proofs.Exact.{bill_charged}
 use Rattle.bills.specs.Rows.{Row, rows}
 

@@ -1,2 +1,3 @@
 pub mod Billed
+pub mod Bill
 pub mod Rows

@@ -12,7 +12,7 @@ use Rattle.tables.specs.Executed.{model}
 use Rattle.spans.specs.Runs.{runs}
 use Rattle.terms.proofs.Limited.{limited, in_range}
 use Rattle.decide.proofs.Decide.{answer_decides}
-use Rattle.decide.proofs.Answer.{answer}
+use Rattle.decide.specs.Answer.{answer}
 use Rattle.decide.specs.Decides.{Reply, Decides}
 use Rattle.cases.specs.Cases.{Case, edges, nothing, readings, stretches, countings, holes, pads, cases}
 

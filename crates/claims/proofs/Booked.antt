@@ -27,7 +27,7 @@ use Rattle.records.specs.Records.{parse}
 use Rattle.decide.specs.Decides.{Reply, Decides}
 use Rattle.decide.proofs.Unique.{at_most_one}
 use Rattle.decide.proofs.Decide.{answer_decides}
-use Rattle.decide.proofs.Answer.{answer}
+use Rattle.decide.specs.Answer.{answer}
 use Rattle.commands.specs.Buffers.{is_short}
 use Rattle.commands.specs.Call.{Outcome, Refused, Ended, Changed, Asked, obey, judged}
 use Rattle.claims.specs.Table.{

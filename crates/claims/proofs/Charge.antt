@@ -24,13 +24,13 @@ use Rattle.refusals.proofs.Ranks.{rank_number}
 use Rattle.logic.specs.Depths.{Derived}
 use Rattle.logic.specs.Printed.{Profiled}
 use Rattle.logic.specs.Untouched.{Untouched}
-use Rattle.line.proofs.Intervals.{interval, count}
+use Rattle.line.specs.Intervals.{interval, count}
 use Rattle.line.proofs.IntervalLaws.{pieces}
 use Rattle.tables.specs.Tables.{label_table, link_table}
 use Rattle.tables.proofs.TableLaws.{table_exact, length_labels, length_links}
 use Rattle.block.specs.Block.{read_held, good}
 use Rattle.decide.specs.Decides.{Never, Lowest}
-use Rattle.decide.proofs.Answer.{answer}
+use Rattle.decide.specs.Answer.{answer}
 use Rattle.shift.specs.Shifted.{shifted}
 use Rattle.moves.specs.Mirrored.{mirrored}
 use Rattle.charges.specs.declared.PriceLine.{PriceLine}
@@ -40,7 +40,7 @@ use Rattle.charges.specs.Lines.{lines_of, line_tests}
 use Rattle.charges.specs.Charges.{value_of}
 use Rattle.charging.proofs.Summing.{in_order}
 use Rattle.bills.specs.Billed.{asked}
-use Rattle.bills.proofs.Bill.{bill}
+use Rattle.bills.specs.Bill.{bill}
 use Rattle.bills.proofs.Exact.{bill_charged, bill_item, bill_unrefused, concerns_asked, charged_one}
 use Rattle.bills.proofs.Low.{total_low}
 use Rattle.bills.proofs.Same.{bill_elsewhere, bill_profile_same}

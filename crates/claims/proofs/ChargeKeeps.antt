@@ -9,7 +9,7 @@ use Rattle.block.specs.Block.{read_held}
 use Rattle.charges.specs.declared.Charge.{Charge}
 use Rattle.charges.specs.declared.Charge.TheVariants as Charge
 use Rattle.charges.specs.Lines.{lines_of}
-use Rattle.bills.proofs.Bill.{bill}
+use Rattle.bills.specs.Bill.{bill}
 use Rattle.bills.proofs.Exact.{bill_unrefused}
 use Rattle.service.specs.Tables.{Tables, AfterCharge, after_charge}
 use Rattle.service.specs.Charging.{shown, charge_call}

@@ -17,7 +17,7 @@ use Rattle.spans.proofs.Longest.{longest_one}
 use Rattle.tables.proofs.Shown.{labels_one, links_one}
 use Rattle.decide.specs.Decides.{Yes, No, Spans, Reply, Contradiction, Answered, Never, InAll, Decides}
 use Rattle.decide.proofs.Unique.{lowest_one}
-use Rattle.decide.proofs.Verdicts.{answer_of}
+use Rattle.decide.specs.Verdicts.{answer_of}
 use Rattle.commands.specs.Buffers.{After}
 use Rattle.claims.specs.Exact.{RunsWritten, Contradicts, Exact}
 use Rattle.claims.specs.Tells.{Tells_same}

@@ -17,7 +17,7 @@ use Rattle.spans.proofs.Longest.{flat_length}
 use Rattle.refusals.specs.Refusals.{test, tested}
 use Rattle.frames.specs.Frames.{kind_field, length_field, body_of}
 use Rattle.decide.specs.Decides.{Yes, No, Spans, Reply, Contradiction, Answered}
-use Rattle.decide.proofs.Answer.{answer}
+use Rattle.decide.specs.Answer.{answer}
 use Rattle.logic.specs.Untouched.{Untouched}
 use Rattle.decide.proofs.Local.{locality}
 use Rattle.commands.specs.Buffers.{Buffers, After, short}

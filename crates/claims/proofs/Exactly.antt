@@ -15,7 +15,7 @@ use Rattle.logic.specs.Depths.{Derived}
 use Rattle.refusals.specs.Refusals.{tested}
 use Rattle.terms.specs.Otherwise.{on_tested}
 use Rattle.terms.specs.Spans.{Run, Longest, flat}
-use Rattle.line.proofs.Intervals.{interval, count}
+use Rattle.line.specs.Intervals.{interval, count}
 use Rattle.line.proofs.IntervalLaws.{pieces}
 use Rattle.tables.proofs.TableLaws.{table_exact}
 use Rattle.spans.proofs.Longest.{flat_length}
@@ -25,10 +25,10 @@ use Rattle.records.specs.declared.Command.{Command}
 use Rattle.records.specs.declared.Command.TheVariants as Command
 use Rattle.frames.specs.Frames.{length_field, body_of, used_for}
 use Rattle.decide.specs.Decides.{Yes, No, Spans, Reply, Contradiction, Answered, Never, Some, InAll, InOneNot}
-use Rattle.decide.proofs.Answer.{answer}
+use Rattle.decide.specs.Answer.{answer}
 use Rattle.decide.proofs.Decide.{contradiction_exactly, yes_exactly, no_exactly, spans_exactly, clear_spans}
 use Rattle.decide.proofs.Sentences.{some_never, none_satisfies, yes_in_all, no_in_one, spans_in_all, spans_longest}
-use Rattle.decide.proofs.Verdicts.{answer_of}
+use Rattle.decide.specs.Verdicts.{answer_of}
 use Rattle.commands.specs.Buffers.{Buffers, After, after, short}
 use Rattle.questions.specs.Code.{spans_after}
 use Rattle.commands.specs.Code.{replied_is}

@@ -21,7 +21,7 @@ use Rattle.records.specs.declared.Command.TheVariants as Command
 use Rattle.records.specs.Records.{question_tests, decoded_as, as_question, parsed_body, parse}
 use Rattle.tables.specs.Tables.{label_table, link_table}
 use Rattle.spans.proofs.Longest.{flat_length}
-use Rattle.decide.proofs.Answer.{answer}
+use Rattle.decide.specs.Answer.{answer}
 use Rattle.decide.specs.Decides.{Yes, No, Spans, Reply, Contradiction, Answered}
 use Rattle.decide.proofs.Verdicts.{spans_fit}
 use Rattle.tables.proofs.TableLaws.{length_labels, length_links}

@@ -23,7 +23,7 @@ use Rattle.records.specs.Records.{question_tests, decoded_as, parsed_body, parse
 use Rattle.terms.specs.Spans.{flat}
 use Rattle.spans.proofs.Longest.{flat_length}
 use Rattle.decide.proofs.Decide.{answer_decides}
-use Rattle.decide.proofs.Answer.{answer}
+use Rattle.decide.specs.Answer.{answer}
 use Rattle.decide.specs.Decides.{Yes, No, Spans, Reply, Contradiction, Answered, Decides}
 use Rattle.commands.specs.Call.{
   lent_tests,

@@ -24,7 +24,7 @@ use Rattle.refusals.specs.Refusals.{test, tested}
 use Rattle.frames.specs.Frames.{lengths_of, length_field}
 use Rattle.decide.specs.Decides.{Yes, No, Spans, Reply, Contradiction, Answered, Decides}
 use Rattle.decide.proofs.Decide.{decides_exactly}
-use Rattle.decide.proofs.Answer.{answer}
+use Rattle.decide.specs.Answer.{answer}
 use Rattle.shift.specs.Shifted.{by, shifted, stays}
 use Rattle.moves.specs.Mirrored.{mirrored, mirrors}
 use Rattle.moves.proofs.Moved.{shift_answers, mirror_answers}

@@ -20,8 +20,8 @@ use Rattle.terms.proofs.Limited.{limited, in_range}
 use Rattle.spans.proofs.Longest.{run_ends}
 use Rattle.frames.specs.Frames.{length_field}
 use Rattle.decide.proofs.Decide.{underived_no}
-use Rattle.decide.proofs.Answer.{answer}
-use Rattle.decide.proofs.Verdicts.{answer_of}
+use Rattle.decide.specs.Answer.{answer}
+use Rattle.decide.specs.Verdicts.{answer_of}
 use Rattle.commands.specs.Buffers.{Buffers, After}
 use Rattle.commands.specs.Call.{call}
 use Rattle.commands.specs.Code.{replied_is}

@@ -24,8 +24,8 @@ use Rattle.frames.specs.Frames.{length_field, kind_field, body_of, used_for}
 use Rattle.records.specs.Records.{body_tests, command_in, decoded_as, parsed_body, parsed_frame, parse}
 use Rattle.frames.specs.Framing.{frame_tests, framed}
 use Rattle.decide.specs.Decides.{Yes, No, Spans, Reply, Contradiction, Answered}
-use Rattle.decide.proofs.Answer.{answer}
-use Rattle.decide.proofs.Verdicts.{answer_of}
+use Rattle.decide.specs.Answer.{answer}
+use Rattle.decide.specs.Verdicts.{answer_of}
 use Rattle.commands.specs.Buffers.{Buffers, After, after, short}
 use Rattle.commands.specs.Code.{replied_is}
 use Rattle.commands.specs.Call.{Outcome, Refused, Ended, held_tests, obey, judged, effect, call}

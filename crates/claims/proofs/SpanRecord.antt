@@ -21,7 +21,7 @@ use Rattle.frames.specs.Frames.{lengths_of}
 use Rattle.records.specs.Records.{body_tests, command_in, question_tests, decoded_as, parsed_body}
 use Rattle.records.specs.Frame.{parse_record}
 use Rattle.decide.specs.Decides.{Yes, No, Spans, Reply, Contradiction, Answered}
-use Rattle.decide.proofs.Answer.{answer}
+use Rattle.decide.specs.Answer.{answer}
 use Rattle.commands.specs.Buffers.{Buffers, After, after, short}
 use Rattle.commands.specs.Code.{replied_is}
 use Rattle.commands.specs.Call.{lent_tests, judged, replied, effect, on_lent, call, span_call}

@@ -10,7 +10,7 @@ use Rattle.terms.specs.Held.{Held}
 use Rattle.terms.specs.Tests.{differ}
 use Rattle.block.specs.Block.{read_held}
 use Rattle.records.specs.Records.{parse}
-use Rattle.decide.proofs.Answer.{answer}
+use Rattle.decide.specs.Answer.{answer}
 use Rattle.decide.specs.Decides.{Yes, No, Spans, Reply, Contradiction, Answered}
 use Rattle.claims.specs.Memory.{Keeps}
 use Rattle.commands.specs.Call.{lent_tests, Outcome, Refused, Ended, Changed, Asked, judged, replied, effect, call}

@@ -18,7 +18,7 @@ use Rattle.places.specs.Layout.{SIZE, encode}
 use Rattle.records.specs.declared.Command.{Command}
 use Rattle.records.specs.Parsed.{Parsed}
 use Rattle.records.specs.Parsed as Parsed
-use Rattle.decide.proofs.Answer.{answer}
+use Rattle.decide.specs.Answer.{answer}
 use Rattle.commands.specs.declared.Reply as Code
 use Rattle.commands.specs.Call.{Refused, Changed, Asked, held_tests, changed_by, judged, effect}
 use Rattle.commands.specs.Buffers.{Buffers, lent, After, after, after_of}

@@ -25,7 +25,7 @@ use Rattle.records.specs.Parsed as Parsed
 use Rattle.records.specs.Records.{as_question, parsed_body, parse}
 use Rattle.tables.specs.Tables.{label_table, link_table}
 use Rattle.terms.specs.Spans.{flat}
-use Rattle.decide.proofs.Answer.{answer}
+use Rattle.decide.specs.Answer.{answer}
 use Rattle.decide.specs.Decides.{Yes, No, Spans, Reply, Contradiction, Answered}
 use Rattle.commands.specs.Buffers.{Buffers, lent, After, after, short}
 

@@ -12,7 +12,7 @@ use Rattle.state.specs.declared.Change.{Change}
 use Rattle.state.specs.State.{held_of}
 use Rattle.places.specs.Layout.{SIZE, encode}
 use Rattle.decide.specs.Decides.{Yes, No, Spans, Reply, Contradiction, Answered}
-use Rattle.decide.proofs.Verdicts.{answer_of}
+use Rattle.decide.specs.Verdicts.{answer_of}
 use Rattle.questions.specs.Code.{spans_after}
 use Rattle.commands.specs.declared.Reply as Code
 use Rattle.commands.specs.Call.{filled, replied}

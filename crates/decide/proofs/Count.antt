@@ -23,7 +23,7 @@ use Rattle.line.specs.CutLaws.{
   distinct_only,
   cuts_few,
 }
-use Rattle.line.proofs.Intervals.{cuts_of}
+use Rattle.line.specs.Intervals.{cuts_of}
 use Rattle.terms.proofs.Limited.{some_in, in_some, Limited}
 
 -- ---- the number of distinct depths

@@ -25,7 +25,7 @@ use Rattle.logic.proofs.ClassLaws.{concerns_test}
 use Rattle.logic.proofs.Local.{concerns_shut, asked_concerns, statement_concerns}
 use Rattle.terms.specs.Spans.{Run, Covers, Longest}
 use Rattle.line.specs.CutLaws.{upto_length, cuts_asc}
-use Rattle.line.proofs.Intervals.{cuts_of, interval, count}
+use Rattle.line.specs.Intervals.{cuts_of, interval, count}
 use Rattle.line.proofs.IntervalLaws.{met}
 use Rattle.line.specs.Code.{cuts_inner}
 use Rattle.spans.specs.Runs.{runs}
@@ -51,7 +51,7 @@ use Rattle.decide.specs.Decides.{
 }
 use Rattle.decide.proofs.Derives.{Reads, Derives}
 use Rattle.decide.proofs.Unique.{clash, at_most_one, derives_one}
-use Rattle.decide.proofs.Answer.{never_b, clashes, clash_or, verdict, answer}
+use Rattle.decide.specs.Answer.{never_b, clashes, clash_or, verdict, answer}
 
 -- ---- the answer decides
 

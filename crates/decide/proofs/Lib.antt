@@ -1,4 +1,3 @@
-pub mod Answer
 pub mod Count
 pub mod Decide
 pub mod Derives

@@ -9,7 +9,7 @@ use Rattle.terms.proofs.Limited.{InRange}
 use Rattle.terms.specs.Spans.{Run, Longest}
 use Rattle.decide.specs.Decides.{Yes, No, Spans, Reply, Contradiction, Answered, Never, Some, InAll, InOneNot, Decides}
 use Rattle.decide.proofs.Derives.{Derives}
-use Rattle.decide.proofs.Answer.{answer}
+use Rattle.decide.specs.Answer.{answer}
 use Rattle.decide.proofs.Unique.{lowest_never}
 use Rattle.decide.proofs.Decide.{answer_derives, contradiction_exactly, answer_decides, decides_exactly}
 

@@ -15,7 +15,7 @@ use Rattle.logic.specs.Depths.{Derived}
 use Rattle.logic.proofs.Inside.{derived_inside}
 use Rattle.line.specs.Pieces.{Pieces}
 use Rattle.line.proofs.Numbered.{pieces_one}
-use Rattle.line.proofs.Intervals.{cuts_of, interval, count}
+use Rattle.line.specs.Intervals.{cuts_of, interval, count}
 use Rattle.line.proofs.IntervalLaws.{pieces}
 use Rattle.tables.specs.Shows.{Bit, Shows}
 use Rattle.tables.proofs.TableLaws.{table_exact}

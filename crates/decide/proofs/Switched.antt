@@ -9,7 +9,7 @@ use Rattle.logic.proofs.Chains.{chain_map}
 use Rattle.decide.specs.Decides.{Reply, Contradiction, Answered}
 use Rattle.decide.proofs.Derives.{Derives}
 use Rattle.decide.proofs.Unique.{derives_one}
-use Rattle.decide.proofs.Answer.{answer}
+use Rattle.decide.specs.Answer.{answer}
 use Rattle.decide.proofs.Decide.{answer_derives}
 
 -- what is derived is the same type for both, so that only the records around it change

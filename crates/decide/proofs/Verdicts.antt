@@ -23,7 +23,7 @@ use Rattle.line.specs.CutLaws.{upto_length}
 use Rattle.rows.proofs.Laws.{true_false}
 use Rattle.terms.specs.Spans.{Run}
 use Rattle.terms.specs.Tests.{differ}
-use Rattle.line.proofs.Intervals.{cuts_of, interval, count}
+use Rattle.line.specs.Intervals.{cuts_of, interval, count}
 use Rattle.steps.specs.Concluded.{label_names, link_names}
 use Rattle.tables.specs.Saturate.{fact, mem}
 use Rattle.tables.specs.Executed.{model}
@@ -34,20 +34,9 @@ use Rattle.spans.specs.Runs.{Begun, outside, since, stretch_of, runs_from, runs,
 use Rattle.verdicts.specs.Reading.{any_below, Lookup, absent, first, lowest_of, never_in, clash_of, clashes_in, holds_in}
 use Rattle.verdicts.specs.Below.{lowest_same}
 use Rattle.verdicts.specs.declared.Clash.TheVariants as Clash
-use Rattle.decide.proofs.Answer.{never_b, clashes, clash_or, verdict, answer}
+use Rattle.decide.specs.Verdicts.{answer_of, table_verdict}
+use Rattle.decide.specs.Answer.{never_b, clashes, clash_or, verdict, answer}
 use Rattle.decide.specs.Decides.{Verdict, Yes, No, Spans, Reply, Contradiction, Answered}
-
--- a reply as an answer
-abbrev pub answer_of : Reply → Answer
-answer_of (Contradiction a) = Answer.Contradiction a
-answer_of (Answered Yes) = Answer.Yes
-answer_of (Answered No) = Answer.No
-answer_of (Answered (Spans rs)) = Answer.Spans (length rs)
-
--- what the tables say of a question in the hole, on a line with these cuts, where nothing is contradictory
-abbrev pub table_verdict : Hole → List ℤ → List ℕ → List ℕ → Question → Verdict
-table_verdict H cs labels links (Question.Holds x i) = cond (is_inside H i && holds_in labels links x (upto cs i)) Yes No
-table_verdict H cs labels links (Question.Spans a A) = Spans (runs (line_of H) cs (has_label labels a A))
 
 -- ---- it is the model
 

@@ -1,1 +1,3 @@
 pub mod Decides
+pub mod Answer
+pub mod Verdicts

@@ -21,7 +21,7 @@ use Rattle.records.specs.Parsed as Parsed
 use Rattle.frames.specs.Framing.{framed}
 use Rattle.records.specs.Records.{decode_body, parsed_body, parsed_frame, parse}
 use Rattle.frames.specs.Frames.{length_field, kind_field, body_of, is_unknown, allows, lengths_of, used_for}
-use Rattle.decide.proofs.Answer.{answer}
+use Rattle.decide.specs.Answer.{answer}
 use Rattle.decide.specs.Decides.{Yes, No, Spans, Reply, Contradiction, Answered}
 use Rattle.commands.specs.Call.{Outcome, Refused, Ended, Changed, Asked, held_tests, obey, judged, replied, effect}
 use Rattle.commands.specs.Buffers.{Buffers}

@@ -1,6 +1,5 @@
 pub mod Counts
 pub mod IntervalLaws
-pub mod Intervals
 pub mod Numbered
 pub mod Places
 pub mod Putting

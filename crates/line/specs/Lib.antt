@@ -1,4 +1,5 @@
 pub mod Pieces
 pub mod Cuts
 pub mod CutLaws
+pub mod Intervals
 pub mod Code

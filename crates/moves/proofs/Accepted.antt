@@ -10,7 +10,7 @@ use Rattle.terms.specs.declared.Rule.{Rule}
 use Rattle.terms.specs.Held.{Held, counting_in, hole_in, profile_in, turn}
 use Rattle.terms.specs.Lists.{limits}
 use Rattle.terms.proofs.Limited.{limited, of_limited, in_range}
-use Rattle.decide.proofs.Answer.{answer}
+use Rattle.decide.specs.Answer.{answer}
 use Rattle.shift.specs.Shifted.{by, shift_mark, shift_hole, shifted, stays}
 use Rattle.moves.specs.Mirrored.{exchanged, mirror_mark, mirrored, mirrors}
 use Rattle.moves.specs.Answers.{shift_runs, mirror_runs, move_question, move_reply}

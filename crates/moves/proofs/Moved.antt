@@ -11,7 +11,7 @@ use Rattle.logic.proofs.Chains.{chain_map}
 use Rattle.decide.specs.Decides.{Verdict, Yes, No, Spans, Reply, Contradiction, Answered}
 use Rattle.decide.proofs.Derives.{Reads, Derives}
 use Rattle.decide.proofs.Unique.{derives_one}
-use Rattle.decide.proofs.Answer.{answer}
+use Rattle.decide.specs.Answer.{answer}
 use Rattle.decide.proofs.Decide.{answer_derives}
 use Rattle.shift.specs.Shifted.{by, shifted}
 use Rattle.moves.specs.Mirrored.{mirrored}

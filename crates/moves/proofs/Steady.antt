@@ -17,7 +17,7 @@ use Rattle.logic.specs.Model.{Least}
 use Rattle.logic.specs.Depths.{Derived}
 use Rattle.logic.proofs.Inside.{derived_inside}
 use Rattle.line.specs.Pieces.{Unmarked}
-use Rattle.line.proofs.Intervals.{interval, intervals}
+use Rattle.line.specs.Intervals.{interval, intervals}
 use Rattle.line.proofs.IntervalLaws.{by_intervals, one_interval}
 use Rattle.moves.proofs.Moves.{Side, upper, lower, gone}
 use Rattle.moves.proofs.Motions.{Beside}

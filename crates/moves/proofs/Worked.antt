@@ -4,7 +4,7 @@ use Rattle.terms.specs.Lists.{some, every, once, depth_count, limits}
 use Rattle.logic.specs.Classes.{joined_b}
 use Rattle.tables.specs.Executed.{model}
 use Rattle.spans.specs.Runs.{runs}
-use Rattle.decide.proofs.Answer.{answer}
+use Rattle.decide.specs.Answer.{answer}
 use Rattle.shift.specs.Shifted.{by, shifted, stays}
 use Rattle.moves.specs.Mirrored.{mirrored, mirrors}
 use Rattle.moves.specs.Answers.{shift_runs, mirror_runs, move_question, move_reply}

@@ -20,7 +20,7 @@ use Rattle.terms.specs.HoleLaws.{line_of}
 use Rattle.terms.specs.Spans.{Run}
 use Rattle.line.specs.Cuts.{upto}
 use Rattle.line.specs.CutLaws.{upto_length}
-use Rattle.line.proofs.Intervals.{cuts_of}
+use Rattle.line.specs.Intervals.{cuts_of}
 use Rattle.line.specs.Code.{NowCuts}
 use Rattle.state.specs.declared.State.{State}
 use Rattle.state.specs.State.{held_of}
@@ -33,9 +33,10 @@ use Rattle.spans.specs.Code.{SpansWritten}
 use Rattle.spans.proofs.Longest.{runs_fit}
 use Rattle.logic.specs.Classes.{concerns_b}
 use Rattle.verdicts.specs.Reading.{Lookup, lowest_of, clash_of, clashes_in, clash_in, holds_in}
-use Rattle.decide.proofs.Answer.{clash_or, answer}
+use Rattle.decide.specs.Answer.{clash_or, answer}
 use Rattle.decide.specs.Decides.{Verdict, Yes, No, Spans, Reply, Contradiction, Answered}
-use Rattle.decide.proofs.Verdicts.{answer_of, table_verdict, answer_is, clash_nowhere, clash_item}
+use Rattle.decide.specs.Verdicts.{answer_of, table_verdict}
+use Rattle.decide.proofs.Verdicts.{answer_is, clash_nowhere, clash_item}
 use Rattle.questions.specs.Code.{HeldState, spans_after, ReadOff, Answered-as}
 use Rattle.questions.proofs.Given.{few, ranged}
 

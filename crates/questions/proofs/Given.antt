@@ -9,7 +9,7 @@ use Rattle.terms.specs.Limits.{CUTS}
 use Rattle.terms.specs.Held.{hole_in, ends_of, is_rule}
 use Rattle.terms.proofs.Ends.{ends_placed}
 use Rattle.terms.specs.Places.{MarksNamed, rules_in, rule_at}
-use Rattle.line.proofs.Intervals.{cuts_of}
+use Rattle.line.specs.Intervals.{cuts_of}
 use Rattle.line.specs.Code.{CutsIn, LowCuts, NowCuts, held_cuts, low_cuts}
 use Rattle.state.specs.declared.State.{State}
 use Rattle.state.specs.State.{held_of}

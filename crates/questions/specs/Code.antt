@@ -11,9 +11,9 @@ use Rattle.line.specs.Code.{CutsIn, LowCuts}
 use Rattle.state.specs.declared.State.{State}
 use Rattle.state.specs.State.{held_of, CountsIn}
 use Rattle.tables.specs.Seeded.{Shown}
-use Rattle.decide.proofs.Answer.{answer}
+use Rattle.decide.specs.Answer.{answer}
 use Rattle.decide.specs.Decides.{Yes, No, Spans, Reply, Contradiction, Answered}
-use Rattle.decide.proofs.Verdicts.{answer_of, table_verdict}
+use Rattle.decide.specs.Verdicts.{answer_of, table_verdict}
 
 -- a state that a good block holds
 pub record HeldState (s : State) : Type 0 where

@@ -40,7 +40,7 @@ use Rattle.commands.specs.Code.{long}
 use Rattle.charges.specs.declared.Charge.{Charge}
 use Rattle.charges.specs.declared.Charge.TheVariants as Charge
 use Rattle.charges.specs.Lines.{lines_of, line_tests}
-use Rattle.bills.proofs.Bill.{bill}
+use Rattle.bills.specs.Bill.{bill}
 use Rattle.charging.specs.Code.{BilledAs}
 use Rattle.charging.proofs.Summing.{in_order}
 use Rattle.service.specs.Tables.{Tables, tables, AfterCharge, after_charge, in_line}

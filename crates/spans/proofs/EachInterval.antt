@@ -15,7 +15,7 @@ use Rattle.line.specs.CutLaws.{cuts_asc}
 use Rattle.line.specs.Code.{cuts_inner}
 use Rattle.line.specs.Pieces.{Pieces}
 use Rattle.line.proofs.Numbered.{pieces_one}
-use Rattle.line.proofs.Intervals.{cuts_of, interval, count}
+use Rattle.line.specs.Intervals.{cuts_of, interval, count}
 use Rattle.line.proofs.IntervalLaws.{pieces}
 use Rattle.spans.specs.declared.Progress.{Progress}
 use Rattle.spans.specs.Ended.{SpansWritten, EndedBefore, AfterInterval}

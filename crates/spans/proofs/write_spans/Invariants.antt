@@ -16,7 +16,7 @@ use Rattle.terms.specs.HoleLaws.{line_of}
 use Rattle.terms.proofs.Limited.{InRange}
 use Rattle.terms.specs.Spans.{Run, Longest}
 use Rattle.line.specs.Pieces.{Pieces}
-use Rattle.line.proofs.Intervals.{cuts_of}
+use Rattle.line.specs.Intervals.{cuts_of}
 use Rattle.spans.specs.Runs.{has_label}
 use Rattle.spans.specs.Code.{ToStep, ended_at, begun_in, Walked, none, next}
 use Rattle.spans.specs.Ended.{AfterInterval}

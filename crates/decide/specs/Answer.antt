@@ -8,7 +8,7 @@ use Rattle.terms.specs.Holes.{is_inside}
 use Rattle.terms.specs.Held.{Held, hole_in}
 use Rattle.terms.specs.HoleLaws.{line_of}
 use Rattle.logic.specs.Classes.{concerns_b}
-use Rattle.line.proofs.Intervals.{cuts_of, interval, count}
+use Rattle.line.specs.Intervals.{cuts_of, interval, count}
 use Rattle.spans.specs.Runs.{runs}
 use Rattle.verdicts.specs.Reading.{any_below, Lookup, absent, first, lowest_of}
 use Rattle.tables.specs.Saturate.{Fact, fact, mem}
