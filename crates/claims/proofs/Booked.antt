@@ -71,7 +71,7 @@ use Rattle.claims.specs.Reference.{
   restricted,
   answered,
 }
-use Rattle.claims.proofs.Kinds.{said_of, said_command}
+use Rattle.claims.proofs.KindRows.{said_of, said_command}
 use Rattle.claims.proofs.Refused.{command_of, outcome_by, judged_by_rows}
 use Rattle.claims.proofs.Told.{outcome, Told}
 use Rattle.claims.proofs.Told as Told
@@ -116,7 +116,7 @@ module _ (h : Held) (f : Fed) where
   -- ---- what a call tells stands in the book
 
   by_command :
-      {r : Result} {k : Held} (c : Command) → judgement h f ≡ Tested.Passed → 0 < length s → said s ≡ said_of c →
+      (c : Command) {r : Result} {k : Held} → judgement h f ≡ Tested.Passed → 0 < length s → said s ≡ said_of c →
       Told h (obey h c (body_of s) (record_used f)) r k → Book h f r k
   by_command Command.Reset e l d Told.changed = emptied (record { passes = e; left = l; says = d })
   by_command (Command.Add ρ) e l d Told.changed = added (record { passes = e; left = l; says = d })

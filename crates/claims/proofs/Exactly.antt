@@ -35,7 +35,7 @@ use Rattle.commands.specs.Code.{replied_is}
 use Rattle.commands.specs.Call.{Ended, obey, filled, replied, effect, call}
 use Rattle.claims.specs.Table.{Asks, table}
 use Rattle.claims.specs.Exact.{feeding, Holding, Asking, RunsWritten, ToldBy, Exact}
-use Rattle.claims.proofs.Kinds.{said_of}
+use Rattle.claims.proofs.KindRows.{said_of}
 use Rattle.claims.proofs.Refused.{command_of, obeyed, call_by_rows}
 use Rattle.claims.proofs.Kept.{Limited, limited, in_range, few_cuts}
 use Rattle.claims.proofs.Booked.{known}

@@ -7,7 +7,7 @@ pub mod Determined
 pub mod Elsewhere
 pub mod Exactly
 pub mod Kept
-pub mod Kinds
+pub mod KindRows
 pub mod Lent
 pub mod Life
 pub mod Moved

@@ -40,7 +40,7 @@ use Rattle.claims.proofs.Ascending.{
   in_range,
 }
 use Rattle.claims.specs.Table.{broken_frame, unknown_kind, wrong_length, record_rows, input_rows, table, rows, Ascends}
-use Rattle.claims.proofs.Kinds.{record_tests, record_rows_lem, input_tests, input_rows_lem}
+use Rattle.claims.proofs.KindRows.{record_tests, record_rows_lem, input_tests, input_rows_lem}
 
 -- ---- the ranks ascend
 

@@ -1,17 +1,10 @@
 -- A case for each way through the code: no span has begun, one goes on, one ends.
-use mathlib.Core.Path.{◌≡◌}
-use mathlib.Core.Bool.{true, false}
-use Prim.Native.Nat.{◌<◌}
 use mir.Facts.{to_z-of_z}
 use mir.Syntax.{w32}
 use mir.Val.{SFits}
 use borrow.Author.Tests.{not-true, not-false}
-use Rattle.spans.proofs.Steps.{begun_earlier, pair_fits, not_begun, goes_on, ends}
-use Rattle.std.proofs.Common.{rules, [], ◌∷◌, pred, ◌+◌, ◌*◌, ◌≤◌, length, take, ℕ, ◌-◌, ◌/◌, ◌%◌, Bool, nat_eq, nat_lt, List, ◌++◌, slice_index_or, slice_set, bit_and, bit_or, Fits, w8, w64, Bor, MutBor, ℤ, pos, ◌+ℤ◌, ◌-ℤ◌, ◌*ℤ◌, ◌≤ℤ◌, ◌<ℤ◌, FitsSigned, to_z, of_z, arith, refl, ap}
-use Rattle.terms.specs.HoleLaws.{line_of}
-use Rattle.terms.specs.Spans.{run}
-use Rattle.spans.specs.Runs.{stretch_of, runs, has_label}
-use Rattle.spans.specs.Code.{laid, ToWrite, SpansWritten, ToEnd, ToStep, Stepped}
+use Rattle.spans.proofs.Steps.{not_begun, goes_on, ends}
+use Rattle.std.proofs.Common.{rules}
 use Rattle.spans.proofs.step.Goals as goal
 
 pub returns-then-not-state : goal.returns-then-not-state

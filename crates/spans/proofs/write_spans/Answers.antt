@@ -2,14 +2,14 @@
 use mathlib.Core.Path.{◌≡◌, refl, sym, ap, ◌∙◌}
 use mathlib.Core.Bool.{Bool}
 use mathlib.Core.List.{List}
-use Prim.Native.Nat.{ℕ, suc, ◌+◌, ◌-◌, ◌*◌, ◌≤◌}
+use Prim.Native.Nat.{ℕ, suc, ◌+◌, ◌*◌, ◌≤◌}
 use native.Mathlib.Omega.{arith}
 use native.Mathlib.Numerals.{add-one}
 use lib.Dec.{T}
 use lib.IntN.{ℤ}
 use lib.ListN.{length, take}
 use lib.Seq.{length-take-le}
-use Rattle.terms.specs.Limits.{CUTS, SPAN_NUMBERS}
+use Rattle.terms.specs.Limits.{CUTS}
 use Rattle.terms.specs.Holes.{InHole}
 use Rattle.terms.specs.Held.{Held, hole_in}
 use Rattle.terms.specs.HoleLaws.{line_of}
@@ -19,16 +19,12 @@ use Rattle.line.specs.Pieces.{Pieces}
 use Rattle.line.specs.Intervals.{cuts_of}
 use Rattle.line.specs.Code.{CutsIn}
 use Rattle.spans.specs.Runs.{has_label}
-use Rattle.terms.specs.declared.Hole.{Hole}
 use Rattle.spans.specs.declared.Progress.{Progress}
 use Rattle.spans.specs.Code.{ToStep, ended_at, begun_in, Walked, none, next}
 use Rattle.spans.specs.Ended.{AfterInterval}
 use Rattle.spans.proofs.Walks.{walk_begins, walk_fits, walk_fits_last, walk_ends}
 use Rattle.spans.proofs.EachInterval.{same, each_interval}
-use Rattle.std.proofs.Common.{rules, [], ◌∷◌, pred, ◌<◌, ◌/◌, ◌%◌, true, false, nat_eq, nat_lt, ◌++◌, slice_index_or, slice_set, bit_and, bit_or, Fits, w8, w32, w64, Bor, MutBor}
-use Rattle.terms.specs.Spans.{run}
-use Rattle.spans.specs.Runs.{stretch_of, runs}
-use Rattle.spans.specs.Code.{laid, ToWrite, SpansWritten, ToEnd, Stepped}
+use Rattle.spans.specs.Code.{ToWrite}
 use Rattle.spans.proofs.write_spans.Goals as goal
 use Rattle.spans.proofs.write_spans.Goals.{At-loop-p}
 

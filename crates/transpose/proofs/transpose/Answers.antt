@@ -19,20 +19,18 @@ stage-requires-4 c =
     (stage4, c.stage-3.ensures.size ∙ c.stage-2.ensures.size ∙ c.stage.ensures.size ∙ c.requires)
 
 pub stage-requires-5 : goal.stage-requires-5
-stage-requires-5 c =
-    (
-      stage2,
-      c.stage-4.ensures.size ∙ c.stage-3.ensures.size ∙ c.stage-2.ensures.size
-          ∙ c.stage.ensures.size ∙ c.requires,
-    )
+stage-requires-5 c = (
+  stage2,
+  c.stage-4.ensures.size ∙ c.stage-3.ensures.size ∙ c.stage-2.ensures.size
+      ∙ c.stage.ensures.size ∙ c.requires,
+)
 
 pub stage-requires-6 : goal.stage-requires-6
-stage-requires-6 c =
-    (
-      stage1,
-      c.stage-5.ensures.size ∙ c.stage-4.ensures.size ∙ c.stage-3.ensures.size
-          ∙ c.stage-2.ensures.size ∙ c.stage.ensures.size ∙ c.requires,
-    )
+stage-requires-6 c = (
+  stage1,
+  c.stage-5.ensures.size ∙ c.stage-4.ensures.size ∙ c.stage-3.ensures.size
+      ∙ c.stage-2.ensures.size ∙ c.stage.ensures.size ∙ c.requires,
+)
 
 pub returns : goal.returns
 returns c =

@@ -1,16 +1,10 @@
 -- The invariant: no item below `item` is concerned and has NEVER; the measure is the number of items left.
 use mathlib.Core.Path.{◌≡◌, sym, ◌∙◌}
 use mathlib.Core.Bool.{false}
-use Prim.Native.Nat.{ℕ, ◌-◌, ◌≤◌, ◌<◌}
 use native.Mathlib.Omega.{arith}
-use borrow.Author.Count.{below_none, below_more}
-use Rattle.terms.specs.Limits.{ITEMS}
+use borrow.Author.Count.{below_more}
 use Rattle.verdicts.specs.Reading.{listed, clashes_in}
 use Rattle.verdicts.proofs.Reading.{clash_found, clash_absent}
-use Rattle.std.proofs.Common.{rules, T, length, ◌+◌, ◌*◌, ◌/◌, ◌%◌, Bool, true, nat_eq, nat_lt, List, [], ◌∷◌, ◌++◌, slice_index_or, slice_set, bit_and, bit_or, Fits, w8, w32, w64, Bor, MutBor, refl, ap}
-use Rattle.terms.specs.Held.{is_statement}
-use Rattle.terms.specs.Limits.{INTERVALS, LABEL_ENTRIES, LINK_ENTRIES}
-use Rattle.verdicts.specs.Reading.{never_in, clash_in, holds_in}
 use Rattle.verdicts.proofs.clash_in.Goals as goal
 
 pub returns-then-clashes : goal.returns-then-clashes
