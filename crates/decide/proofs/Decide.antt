@@ -6,7 +6,6 @@ use Rattle.std.proofs.Math.Decide.{ℕ_discrete}
 use Rattle.terms.specs.declared.Atom.{Atom}
 use Rattle.terms.specs.declared.Atom.TheVariants.{Has}
 use Rattle.terms.specs.declared.Question.{Question}
-use Rattle.terms.specs.declared.Question.TheVariants as Question
 use Rattle.terms.specs.Tests.{and_both, both_and, true_of, of_true, false_of, differ}
 use Rattle.terms.specs.Limits.{ITEMS, NEVER}
 use Rattle.terms.specs.Holes.{is_inside, InHole}

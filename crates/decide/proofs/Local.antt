@@ -3,7 +3,6 @@ use Rattle.std.specs.Prelude.{◌≡◌, refl, List}
 use mathlib.Core.List.Memᴰ
 use Rattle.terms.specs.declared.Mark.{Mark}
 use Rattle.terms.specs.declared.Question.{Question}
-use Rattle.terms.specs.declared.Question.TheVariants as Question
 use Rattle.terms.specs.Held.{Held, with_marks}
 use Rattle.terms.proofs.Limited.{InRange}
 use Rattle.logic.specs.Untouched.{Untouched}

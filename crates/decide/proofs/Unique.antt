@@ -5,7 +5,6 @@ use Rattle.std.proofs.Math.Decide.{dec_lt}
 use Rattle.terms.specs.declared.Atom.{Atom}
 use Rattle.terms.specs.declared.Atom.TheVariants.{Has}
 use Rattle.terms.specs.declared.Question.{Question}
-use Rattle.terms.specs.declared.Question.TheVariants as Question
 use Rattle.terms.specs.Held.{Held}
 use Rattle.logic.specs.Depths.{Derived}
 use Rattle.spans.proofs.Longest.{longest_one}

@@ -7,18 +7,13 @@ use Rattle.std.proofs.Math.ListN.{get_or-append}
 use Rattle.terms.specs.declared.Atom.{Atom}
 use Rattle.terms.specs.declared.Atom.TheVariants.{Has, Linked}
 use Rattle.terms.specs.declared.Question.{Question}
-use Rattle.terms.specs.declared.Question.TheVariants as Question
-use Rattle.terms.specs.declared.Answer.{Answer}
-use Rattle.terms.specs.declared.Answer.TheVariants as Answer
 use Rattle.terms.specs.Limits.{ITEMS, LABELS, KINDS, NEVER, CUTS, INTERVALS}
-use Rattle.terms.specs.declared.Hole.{Hole}
 use Rattle.terms.specs.Holes.{is_inside}
 use Rattle.terms.specs.Held.{Held, hole_in, is_statement, is_question}
 use Rattle.terms.specs.HoleLaws.{line_of}
 use Rattle.terms.proofs.Limited.{InRange}
 use Rattle.logic.specs.Classes.{concerns_b}
 use Rattle.words.specs.Bit.{bit_at}
-use Rattle.line.specs.Cuts.{upto}
 use Rattle.line.specs.CutLaws.{upto_length}
 use Rattle.rows.proofs.Laws.{true_false}
 use Rattle.terms.specs.Spans.{Run}
@@ -34,7 +29,7 @@ use Rattle.spans.specs.Runs.{Begun, outside, since, stretch_of, runs_from, runs,
 use Rattle.verdicts.specs.Reading.{any_below, Lookup, absent, first, lowest_of, never_in, clash_of, clashes_in, holds_in}
 use Rattle.verdicts.specs.Below.{lowest_same}
 use Rattle.verdicts.specs.declared.Clash.TheVariants as Clash
-use Rattle.decide.specs.Verdicts.{answer_of, table_verdict}
+use Rattle.decide.specs.Verdicts.{table_verdict}
 use Rattle.decide.specs.Answer.{never_b, clashes, clash_or, verdict, answer}
 use Rattle.decide.specs.Decides.{Verdict, Yes, No, Spans, Reply, Contradiction, Answered}
 

@@ -1,9 +1,7 @@
 -- A reply as an answer, and what the tables say of a question. Their laws stand in proofs/Verdicts.
-use Rattle.std.specs.Prelude.{Bool, cond, ◌&&◌, List, ℕ, length, ℤ}
+use Rattle.std.specs.Prelude.{cond, ◌&&◌, List, ℕ, length, ℤ}
 use Rattle.terms.specs.declared.Question.{Question}
-use Rattle.terms.specs.declared.Question.TheVariants as Question
 use Rattle.terms.specs.declared.Answer.{Answer}
-use Rattle.terms.specs.declared.Answer.TheVariants as Answer
 use Rattle.terms.specs.declared.Hole.{Hole}
 use Rattle.terms.specs.Holes.{is_inside}
 use Rattle.terms.specs.HoleLaws.{line_of}

@@ -1,3 +1,2 @@
 // Definitions and theorems alone: what marks and rules decide, and how it is read off the tables.
 #![tactic(auto)]
-
