@@ -23,7 +23,6 @@ use Rattle.decide.proofs.Sentences.{Contradicted, some_never, none_satisfies, sp
 use Rattle.charges.specs.declared.PriceLine.{PriceLine}
 use Rattle.charges.specs.declared.Sum.{Sum}
 use Rattle.charges.specs.declared.Charge.{Charge}
-use Rattle.charges.specs.declared.Charge.TheVariants as Charge
 use Rattle.charges.specs.Costs.{costs, Open}
 use Rattle.charges.specs.Sums.{nothing, is_open, with_lines, charge_of}
 use Rattle.bills.specs.Billed.{Billed, no_lines, line, SomeOpen, ChargesBy, asked, Contradicts, Charged}

@@ -33,7 +33,6 @@ use Rattle.moves.proofs.Moved.{moved_answers}
 use Rattle.charges.specs.declared.PriceLine.{PriceLine}
 use Rattle.charges.specs.declared.Sum.{Sum}
 use Rattle.charges.specs.declared.Charge.{Charge}
-use Rattle.charges.specs.declared.Charge.TheVariants as Charge
 use Rattle.charges.specs.Costs.{centimetres, cost, costs}
 use Rattle.charges.specs.Sums.{nothing, is_open, with_span, with_spans, with_lines, charge_of}
 use Rattle.bills.specs.Bill.{spans_in, spans_of, summed, unless_clash, bill}

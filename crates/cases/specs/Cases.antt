@@ -9,7 +9,6 @@ use Rattle.terms.specs.declared.Atom.TheVariants.{Has, Linked}
 use Rattle.terms.specs.declared.Mark.{Mark}
 use Rattle.terms.specs.Limits.{ITEMS, EVERY, NEVER, SHALLOWEST, DEEPEST, NO_TOP, NO_BOTTOM}
 use Rattle.terms.specs.declared.Question.{Question}
-use Rattle.terms.specs.declared.Question.TheVariants as Question
 use Rattle.terms.specs.declared.Counting.TheVariants.{New}
 use Rattle.terms.specs.declared.Hole.TheVariants.{Part}
 use Rattle.terms.specs.Held.{Held, fresh_settings, with_counting, with_hole}

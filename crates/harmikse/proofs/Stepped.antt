@@ -5,13 +5,12 @@ use mathlib.Core.List.{List}
 use Prim.Native.Nat.{ℕ, suc, ◌+◌, ◌-◌, ◌≤◌, ◌<◌}
 use native.Mathlib.Omega.{arith}
 use native.Mathlib.Numerals.{add-one}
-use borrow.Author.Tests.{eqb-true, not_false}
+use borrow.Author.Tests.{eqb-true, not-false}
 use lib.Dec.{eqb}
 use lib.IntN.{pos}
 use lib.ListN.{length, drop, replicate, length-drop}
 use lib.Seq.{drop-drop}
 use Rattle.terms.specs.declared.Answer.{Answer}
-use Rattle.terms.specs.declared.Answer.TheVariants as Answer
 use Rattle.terms.specs.Tests.{of_true}
 use Rattle.terms.specs.Pairs.{pair_count}
 use Rattle.terms.specs.Limits.{LABEL_ENTRIES, LINK_ENTRIES, SPAN_NUMBERS}
@@ -45,7 +44,7 @@ is_refusal_3 Answer.No e f = absurd (true≢false f)
 is_refusal_3 (Answer.Contradiction n) e f = absurd (true≢false f)
 is_refusal_3 (Answer.Spans n) e f = absurd (true≢false f)
 is_refusal_3 Answer.End e f = absurd (true≢false e)
-is_refusal_3 (Answer.Refused n) e f = ap Answer.Refused (eqb-true n 3 (not_false (eqb n 3) f))
+is_refusal_3 (Answer.Refused n) e f = ap Answer.Refused (eqb-true n 3 (not-false (eqb n 3) f))
 
 -- what is lent at first, as the arrays that it is
 fresh_is : fresh ≡ lent (replicate SIZE 0) (replicate LABEL_ENTRIES 0) (replicate LINK_ENTRIES 0) (replicate SPAN_NUMBERS (pos 0))

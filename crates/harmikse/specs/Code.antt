@@ -1,7 +1,6 @@
 -- What the parts of the program say.
 use Rattle.std.specs.Prelude.{◌≡◌, Bool, true, false, List, ℕ, ◌≤◌, length, drop}
 use Rattle.terms.specs.declared.Answer.{Answer}
-use Rattle.terms.specs.declared.Answer.TheVariants as Answer
 use Rattle.commands.specs.Buffers.{Buffers}
 use Rattle.harmikse.specs.declared.Place.{Place}
 use Rattle.harmikse.specs.Program.{Reaches, Whole}

@@ -3,7 +3,6 @@ use Rattle.std.specs.Prelude.{◌≡◌, refl, ◌⊎◌, Bool, true, false, not
 use Rattle.std.proofs.Common.{sym, ap, ◌∙◌, subst, inl, inr, ⊎_elim, arith, ltb-true, ltb-false, eqb→eq, length-drop}
 use Rattle.terms.specs.Tests.{of_true, differ}
 use Rattle.terms.specs.declared.Answer.{Answer}
-use Rattle.terms.specs.declared.Answer.TheVariants as Answer
 use Rattle.commands.specs.Call.{call}
 use Rattle.commands.specs.Buffers.{Buffers}
 use Rattle.lines.specs.Lines.{line_text}

@@ -1,7 +1,6 @@
 -- 01, The program's lines: which lines the program prints, from its input alone.
 use Rattle.std.specs.Prelude.{◌≡◌, Bool, true, false, not, List, ℕ, suc, ◌≤◌, ◌<◌, T, eqb, pos, length, drop, replicate}
 use Rattle.terms.specs.declared.Answer.{Answer}
-use Rattle.terms.specs.declared.Answer.TheVariants as Answer
 use Rattle.terms.specs.Limits.{LABEL_ENTRIES, LINK_ENTRIES, SPAN_NUMBERS}
 use Rattle.places.specs.Layout.{zeros, SIZE}
 use Rattle.commands.specs.Call.{call}

@@ -13,20 +13,19 @@ use terms::{Answer, LABEL_ENTRIES, LINK_ENTRIES, SPAN_NUMBERS};
 
 const LIMIT: usize = 65_536;
 
-fn main() {
+fn main(rt: HostRuntime) {
     // The one byte more than the limit shows that there is more.
     let mut input = [0u8; 65537];
-    let read = listing::read_input(&mut input);
+    let read = listing::read_input(&rt, &mut input, b"harmikse: standard input");
     if read.failed {
-        os::fail(b"harmikse: standard input");
         return;
     }
     let count = read.count;
     if LIMIT < count {
-        print_line(b"input too long\n", 15, &input[..count], 1);
+        print_line(&rt, b"input too long\n", 15, &input[..count], 1);
         return;
     }
-    run(&input[..count]);
+    run(&rt, &input[..count]);
 }
 
 // Where the next record starts, how many lines are printed, whether the run goes on, and whether a write failed.
@@ -38,7 +37,7 @@ pub struct Place {
     pub failed: bool,
 }
 
-fn run(input: &[u8]) -> Place
+fn run(rt: &(impl Print + Eprint), input: &[u8]) -> Place
     requires { length input.now ≤ LIMIT }
     ensures { result.failed ≡ false → Whole input.now result.printed }
 {
@@ -54,6 +53,7 @@ fn run(input: &[u8]) -> Place
     };
     while place.going {
         place = step(
+            rt,
             &mut block,
             &mut labels,
             &mut links,
@@ -67,6 +67,7 @@ fn run(input: &[u8]) -> Place
 
 // Handles the record where the run is and prints its line.
 fn step(
+    rt: &(impl Print + Eprint),
     block: &mut [u8],
     labels: &mut [u64],
     links: &mut [u8],
@@ -92,7 +93,7 @@ fn step(
     }
     let number = place.printed + 1;
     let next = at + reply.used;
-    let written = print_answer(number, answer, spans, input);
+    let written = print_answer(rt, number, answer, spans, input);
     Place {
         at: next,
         printed: number,
@@ -130,18 +131,30 @@ fn goes_on(answer: Answer) -> bool
 }
 
 // The line of a record, whose number and answer these are.
-fn print_answer(number: usize, answer: Answer, spans: &[i32], input: &[u8]) -> bool
+fn print_answer(
+    rt: &(impl Print + Eprint),
+    number: usize,
+    answer: Answer,
+    spans: &[i32],
+    input: &[u8],
+) -> bool
     requires { (pair_count answer ≤ 97) × (SPAN_NUMBERS ≤ length spans.now)
         × Prints input.now number (line_text number answer spans.now) }
 {
     let mut line = [0u8; 4326];
     let count = lines::line(&mut line, number as u64, answer, spans);
-    print_line(&line, count, input, number)
+    print_line(rt, &line, count, input, number)
 }
 
 // Writes the first bytes of a buffer, which are to be the line of that number for this input.
-fn print_line(line: &[u8], count: usize, input: &[u8], number: usize) -> bool
+fn print_line(
+    rt: &(impl Print + Eprint),
+    line: &[u8],
+    count: usize,
+    input: &[u8],
+    number: usize,
+) -> bool
     requires { (count ≤ length line.now) × Prints input.now number (take count line.now) }
 {
-    listing::print_first(line, count, b"harmikse: standard output")
+    listing::print_first(rt, line, count, b"harmikse: standard output")
 }

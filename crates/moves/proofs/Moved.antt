@@ -3,7 +3,6 @@ use Rattle.std.specs.Prelude.{◌≡◌, refl, ◌↔◌, ℕ, ℤ, neg_ℤ}
 use Rattle.std.proofs.Common.{sym, subst}
 use Rattle.terms.specs.declared.Atom.TheVariants.{Has, Linked}
 use Rattle.terms.specs.declared.Question.{Question}
-use Rattle.terms.specs.declared.Question.TheVariants as Question
 use Rattle.terms.specs.Held.{◌∈◌, Held}
 use Rattle.terms.proofs.Limited.{InRange}
 use Rattle.logic.specs.Joined.{about, Concerns}

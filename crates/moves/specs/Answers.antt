@@ -1,7 +1,6 @@
 -- 02's answers after a shift and of the reversed line: the question moved, and the reply with its spans moved.
 use Rattle.std.specs.Prelude.{cond, List, map, reverse, ℤ, neg_ℤ}
 use Rattle.terms.specs.declared.Question.{Question}
-use Rattle.terms.specs.declared.Question.TheVariants as Question
 use Rattle.terms.specs.Limits.{NO_TOP, NO_BOTTOM}
 use Rattle.terms.specs.Same.{same_depth}
 use Rattle.terms.specs.Spans.{Run, run}

@@ -6,7 +6,6 @@ use Rattle.terms.specs.declared.Mark.{Mark}
 use Rattle.terms.specs.declared.Operator.{Operator}
 use Rattle.terms.specs.declared.Operator.TheVariants.{Within, Above}
 use Rattle.terms.specs.declared.Question.{Question}
-use Rattle.terms.specs.declared.Question.TheVariants as Question
 use Rattle.terms.specs.declared.Rule.{Rule}
 use Rattle.terms.specs.declared.Rule.TheVariants.{Label, Link}
 use Rattle.terms.specs.Limits.{NEVER, NO_TOP, NO_BOTTOM}

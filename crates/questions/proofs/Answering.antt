@@ -9,9 +9,7 @@ use lib.IntN.{ℤ}
 use lib.ListN.{length, take, drop}
 use Rattle.terms.specs.declared.Atom.{Atom}
 use Rattle.terms.specs.declared.Answer.{Answer}
-use Rattle.terms.specs.declared.Answer.TheVariants as Answer
 use Rattle.terms.specs.declared.Question.{Question}
-use Rattle.terms.specs.declared.Question.TheVariants as Question
 use Rattle.terms.specs.Limits.{ITEMS, CUTS, INTERVALS, LABEL_ENTRIES, LINK_ENTRIES}
 use Rattle.terms.specs.declared.Hole.{Hole}
 use Rattle.terms.specs.Holes.{is_inside}
@@ -27,7 +25,6 @@ use Rattle.state.specs.State.{held_of}
 use Rattle.tables.specs.Tables.{label_table, link_table}
 use Rattle.tables.specs.Seeded.{Shown}
 use Rattle.verdicts.specs.declared.Clash.{Clash}
-use Rattle.verdicts.specs.declared.Clash.TheVariants as Clash
 use Rattle.spans.specs.Runs.{runs, has_label}
 use Rattle.spans.specs.Code.{SpansWritten}
 use Rattle.spans.proofs.Longest.{runs_fit}

@@ -24,20 +24,19 @@ const LINK_ROOM: usize = 50000;
 
 const SPAN_ROOM: usize = 256;
 
-fn main() {
+fn main(rt: HostRuntime) {
     // The one byte more than 65,536 shows that there is more.
     let mut script = [0u8; 65537];
-    let read = listing::read_input(&mut script);
+    let read = listing::read_input(&rt, &mut script, b"vectors: standard input");
     if read.failed {
-        os::fail(b"vectors: standard input");
         return;
     }
     let count = read.count;
     if count > 65536 {
-        bad(count);
+        bad(&rt, count);
         return;
     }
-    run(&script[..count]);
+    run(&rt, &script[..count]);
 }
 
 // Where the next step starts, and how many lines are printed.
@@ -47,7 +46,7 @@ struct Place {
     number: usize,
 }
 
-fn run(script: &[u8]) {
+fn run(rt: &(impl Print + Eprint), script: &[u8]) {
     let mut block = [0u8; BLOCK_ROOM];
     let mut labels = [0u64; LABEL_ROOM];
     let mut links = [0u8; LINK_ROOM];
@@ -55,6 +54,7 @@ fn run(script: &[u8]) {
     let mut place = Place { at: 0, number: 0 };
     while place.at < script.len() {
         place = step(
+            rt,
             script,
             place,
             &mut block,
@@ -66,14 +66,15 @@ fn run(script: &[u8]) {
 }
 
 // Ends the run at the script's end.
-fn bad(end: usize) -> Place
+fn bad(rt: &(impl Print + Eprint), end: usize) -> Place
     ensures { (result.at ≡ end) × (result.number ≡ 0) }
 {
-    listing::print(b"bad script\n", b"vectors: standard output");
+    listing::print(rt, b"bad script\n", b"vectors: standard output");
     Place { at: end, number: 0 }
 }
 
 fn step(
+    rt: &(impl Print + Eprint),
     script: &[u8],
     place: Place,
     block: &mut [u8],
@@ -89,19 +90,20 @@ fn step(
     let at = place.at;
     let kind = script[at];
     if kind == 3 {
-        return fill(script, place, block, labels, links, spans);
+        return fill(rt, script, place, block, labels, links, spans);
     }
     if kind == 4 {
-        return poke(script, place, block);
+        return poke(rt, script, place, block);
     }
     if script.len() - at < 11 {
-        return bad(script.len());
+        return bad(rt, script.len());
     }
-    call(script, place, block, labels, links, spans)
+    call(rt, script, place, block, labels, links, spans)
 }
 
 // CALL and SPANS, which have 11 bytes each; the input of CALL stands behind them.
 fn call(
+    rt: &(impl Print + Eprint),
     script: &[u8],
     place: Place,
     block: &mut [u8],
@@ -116,11 +118,11 @@ fn call(
 {
     let lengths = lengths_at(script, place.at);
     if !lengths.good {
-        return bad(script.len());
+        return bad(rt, script.len());
     }
     let reply = lend(script, place.at, lengths, block, labels, links, spans);
     let sums = sums_of(block, labels, links, spans);
-    after(place, lengths.end, script.len(), reply, sums)
+    after(rt, place, lengths.end, script.len(), reply, sums)
 }
 
 // Lends the first elements of each memory.
@@ -157,7 +159,7 @@ fn lend(
 
 // Where the step ends, and the lengths at which it lends the memory; not good where one is past its memory,
 // where the script does not have the input whole, or where the step is neither CALL nor SPANS.
-#[derive(Drop)]
+#[derive(Clone, Copy)]
 struct Lengths {
     good: bool,
     end: usize,
@@ -277,19 +279,26 @@ fn sums_of(block: &[u8], labels: &[u64], links: &[u8], spans: &[i32]) -> Checksu
 }
 
 // Prints a call's line and answers the place behind its step; the script's end where the line cannot be written.
-fn after(place: Place, next: usize, end: usize, reply: Reply, sums: Checksums) -> Place
+fn after(
+    rt: &(impl Print + Eprint),
+    place: Place,
+    next: usize,
+    end: usize,
+    reply: Reply,
+    sums: Checksums,
+) -> Place
     requires { (place.number ≤ place.at) × (place.at < next) × (next ≤ end) }
     ensures { (result.number ≤ result.at) × (place.at < result.at) × (result.at ≤ end) }
 {
     let number = place.number + 1;
-    if print_line(number, reply, sums) {
+    if print_line(rt, number, reply, sums) {
         return Place { at: next, number };
     }
     Place { at: end, number }
 }
 
 // A line has 20 bytes for its number, a blank, 36 for each of six words with their numbers, and its end.
-fn print_line(number: usize, reply: Reply, sums: Checksums) -> bool {
+fn print_line(rt: &(impl Print + Eprint), number: usize, reply: Reply, sums: Checksums) -> bool {
     let mut line = [0u8; 238];
     let answer = reply.answer;
     let blank = lines::put_number(&mut line, 0, number as u64);
@@ -298,7 +307,7 @@ fn print_line(number: usize, reply: Reply, sums: Checksums) -> bool {
     let used = lines::put_counted(&mut line, bytes, b" used ", reply.used as u64);
     let end = put_sums(&mut line, used, sums);
     let all = lines::put_text(&mut line, end, b"\n");
-    listing::print_first(&line, all, b"vectors: standard output")
+    listing::print_first(rt, &line, all, b"vectors: standard output")
 }
 
 fn put_sums(out: &mut [u8], at: usize, sums: Checksums) -> usize
@@ -314,6 +323,7 @@ fn put_sums(out: &mut [u8], at: usize, sums: Checksums) -> usize
 
 // FILL: one memory, whole.
 fn fill(
+    rt: &(impl Print + Eprint),
     script: &[u8],
     place: Place,
     block: &mut [u8],
@@ -326,7 +336,7 @@ fn fill(
 {
     let at = place.at;
     if script.len() - at < 3 {
-        return bad(script.len());
+        return bad(rt, script.len());
     }
     let which = script[at + 1];
     let seed = script[at + 2];
@@ -350,17 +360,17 @@ fn fill(
         fills::depths(spans, seed);
         return next;
     }
-    bad(script.len())
+    bad(rt, script.len())
 }
 
 // POKE: one byte of the block.
-fn poke(script: &[u8], place: Place, block: &mut [u8]) -> Place
+fn poke(rt: &(impl Print + Eprint), script: &[u8], place: Place, block: &mut [u8]) -> Place
     requires { (place.number ≤ place.at) × (place.at < length script.now) }
     ensures { (result.number ≤ result.at) × (place.at < result.at) × (result.at ≤ length script.now) }
 {
     let at = place.at;
     if script.len() - at < 4 {
-        return bad(script.len());
+        return bad(rt, script.len());
     }
     let target = number_at(script, at + 1);
     if target < block.len() {
@@ -370,5 +380,5 @@ fn poke(script: &[u8], place: Place, block: &mut [u8]) -> Place
             number: place.number,
         };
     }
-    bad(script.len())
+    bad(rt, script.len())
 }
