@@ -2,9 +2,7 @@
 -- and the calls beside the records.
 use Rattle.std.specs.Prelude.{not, List, [], ◌∷◌, ◌++◌, ℕ, ℤ, length, drop}
 use Rattle.terms.specs.declared.Answer.{Answer}
-use Rattle.terms.specs.declared.Answer.TheVariants as Answer
 use Rattle.terms.specs.declared.Question.{Question}
-use Rattle.terms.specs.declared.Question.TheVariants as Question
 use Rattle.terms.specs.Limits.{LABEL_ENTRIES, LINK_ENTRIES}
 use Rattle.terms.specs.declared.Hole.TheVariants.{Part}
 use Rattle.terms.specs.declared.Profile.TheVariants.{On}
@@ -19,9 +17,7 @@ use Rattle.correction.specs.Changes.{shift_tests}
 use Rattle.block.specs.Block.{read_held, good}
 use Rattle.places.specs.Layout.{SIZE, encode}
 use Rattle.records.specs.declared.Command.{Command}
-use Rattle.records.specs.declared.Command.TheVariants as Command
 use Rattle.records.specs.Parsed.{Parsed}
-use Rattle.records.specs.Parsed as Parsed
 use Rattle.records.specs.Records.{as_question, parsed_body, parse}
 use Rattle.tables.specs.Tables.{label_table, link_table}
 use Rattle.terms.specs.Spans.{flat}

@@ -2,11 +2,9 @@
 use Rattle.std.specs.Prelude.{◌≡◌, refl, Bool, false, ◌||◌, List, ◌++◌, ℕ, ◌≤◌, ltb, drop}
 use Rattle.std.proofs.Common.{ltb-false}
 use Rattle.terms.specs.declared.Answer.{Answer}
-use Rattle.terms.specs.declared.Answer.TheVariants as Answer
 use Rattle.terms.specs.Tests.{neither}
 use Rattle.terms.specs.Limits.{LABEL_ENTRIES, LINK_ENTRIES, SPAN_NUMBERS}
 use Rattle.terms.specs.Held.{Held}
-use Rattle.refusals.specs.Refusals.{tested}
 use Rattle.terms.specs.Otherwise.{on_tested}
 use Rattle.state.specs.declared.Change.{Change}
 use Rattle.state.specs.State.{held_of}
