@@ -7,10 +7,8 @@ use lib.Dec.{T, ltb, ltb→lt}
 use lib.IntN.{ℤ}
 use lib.ListN.{length, take}
 use Rattle.terms.specs.declared.Answer.{Answer}
-use Rattle.terms.specs.declared.Answer.TheVariants as Answer
 use Rattle.terms.specs.declared.Question.{Question}
 use Rattle.terms.specs.declared.Tested.{Tested}
-use Rattle.terms.specs.declared.Tested.TheVariants as Tested
 use Rattle.terms.specs.Tests.{and_both, of_true, differ}
 use Rattle.refusals.specs.Refusals.{test, tested}
 use Rattle.refusals.proofs.Joining.{clash, tested_append}
@@ -24,21 +22,18 @@ use Rattle.block.specs.declared.Loaded.{Loaded}
 use Rattle.block.specs.Block.{read_held, same_bytes, good, LoadedAs}
 use Rattle.places.specs.Layout.{SIZE, encode}
 use Rattle.records.specs.declared.Command.{Command}
-use Rattle.records.specs.declared.Command.TheVariants as Command
 use Rattle.records.specs.declared.Decoded.{Decoded}
-use Rattle.records.specs.declared.Decoded.TheVariants as Decoded
 use Rattle.records.specs.Parsed.{Parsed}
 use Rattle.records.specs.Records.{as_question, parse}
 use Rattle.frames.specs.Frames.{body_of}
 use Rattle.service.specs.declared.Lent.{Lent}
 use Rattle.reader.specs.declared.Input.{Input}
-use Rattle.commands.specs.Call.{Outcome, Refused, judged, effect, on_lent, call}
+use Rattle.commands.specs.Call.{Outcome, judged, effect, on_lent, call}
 use Rattle.commands.specs.Buffers.{Buffers, lent, after, is_short_or}
 use Rattle.questions.specs.Code.{HeldState}
 use Rattle.reader.specs.Code.{parsed_of, ParsedAs}
 use Rattle.commands.specs.Code.{long}
 use Rattle.charges.specs.declared.Charge.{Charge}
-use Rattle.charges.specs.declared.Charge.TheVariants as Charge
 use Rattle.charges.specs.Lines.{lines_of, line_tests}
 use Rattle.bills.specs.Bill.{bill}
 use Rattle.charging.specs.Code.{BilledAs}

@@ -7,7 +7,6 @@ use Rattle.refusals.specs.Refusals.{Test, test, tested}
 use Rattle.block.specs.Block.{read_held, good}
 use Rattle.tables.specs.Tables.{label_table, link_table}
 use Rattle.charges.specs.declared.Charge.{Charge}
-use Rattle.charges.specs.declared.Charge.TheVariants as Charge
 use Rattle.charges.specs.Lines.{lines_of, line_tests}
 use Rattle.bills.specs.Bill.{bill}
 use Rattle.service.specs.Tables.{Tables, tables, AfterCharge, after_charge, charge_short}
