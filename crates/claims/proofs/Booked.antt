@@ -11,7 +11,6 @@ use Rattle.terms.specs.declared.Mark.{Mark}
 use Rattle.terms.specs.declared.Question.{Question}
 use Rattle.terms.specs.declared.Rule.{Rule}
 use Rattle.terms.specs.declared.Tested.{Tested}
-use Rattle.terms.specs.declared.Tested.TheVariants as Tested
 use Rattle.terms.specs.declared.Profile.TheVariants.{On}
 use Rattle.terms.specs.Held.{Held, with_rules, with_marks, with_counting, with_hole, with_profile, empty_held}
 use Rattle.terms.proofs.Limited.{InRange}
@@ -21,7 +20,6 @@ use Rattle.refusals.proofs.Joining.{clash}
 use Rattle.terms.specs.Same.{same_mark}
 use Rattle.shift.specs.Shifted.{shifted}
 use Rattle.records.specs.declared.Command.{Command}
-use Rattle.records.specs.declared.Command.TheVariants as Command
 use Rattle.frames.specs.Frames.{kind_field, body_of, used_for}
 use Rattle.records.specs.Records.{parse}
 use Rattle.decide.specs.Decides.{Reply, Decides}
@@ -74,7 +72,6 @@ use Rattle.claims.specs.Reference.{
 use Rattle.claims.proofs.KindRows.{said_of, said_command}
 use Rattle.claims.proofs.Refused.{command_of, outcome_by, judged_by_rows}
 use Rattle.claims.proofs.Told.{outcome, Told}
-use Rattle.claims.proofs.Told as Told
 
 -- ---- a record that passes is of a known kind
 

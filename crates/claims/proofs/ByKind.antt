@@ -2,12 +2,9 @@
 use Rattle.std.specs.Prelude.{◌≡◌, refl, List, ℕ, ℤ}
 use Rattle.std.proofs.Common.{sym, ◌∙◌, inl, inr, ⊎_elim}
 use Rattle.terms.specs.declared.Answer.{Answer}
-use Rattle.terms.specs.declared.Answer.TheVariants as Answer
 use Rattle.terms.specs.declared.Atom.{Atom}
 use Rattle.terms.specs.declared.Question.{Question}
-use Rattle.terms.specs.declared.Question.TheVariants as Question
 use Rattle.terms.specs.declared.Tested.{Tested}
-use Rattle.terms.specs.declared.Tested.TheVariants as Tested
 use Rattle.terms.specs.Tests.{differ}
 use Rattle.terms.specs.Held.{Held}
 use Rattle.refusals.specs.Refusals.{tested}

@@ -10,7 +10,6 @@ use Rattle.terms.specs.declared.Mark.{Mark}
 use Rattle.terms.specs.declared.Profile.{Profile}
 use Rattle.terms.specs.declared.Question.TheVariants as Question
 use Rattle.terms.specs.declared.Tested.{Tested}
-use Rattle.terms.specs.declared.Tested.TheVariants as Tested
 use Rattle.terms.specs.Tests.{of_true, differ}
 use Rattle.terms.specs.Limits.{ITEMS, EVERY, LABEL_ENTRIES, LINK_ENTRIES}
 use Rattle.terms.specs.Lists.{limits}
@@ -35,7 +34,6 @@ use Rattle.shift.specs.Shifted.{shifted}
 use Rattle.moves.specs.Mirrored.{mirrored}
 use Rattle.charges.specs.declared.PriceLine.{PriceLine}
 use Rattle.charges.specs.declared.Charge.{Charge}
-use Rattle.charges.specs.declared.Charge.TheVariants as Charge
 use Rattle.charges.specs.Lines.{lines_of, line_tests}
 use Rattle.charges.specs.Charges.{value_of}
 use Rattle.charging.proofs.Summing.{in_order}

@@ -2,12 +2,10 @@
 use Rattle.std.specs.Prelude.{◌≡◌, refl, ◌↔◌, List, ℕ, ◌≤◌}
 use Rattle.std.proofs.Common.{sym, ap, ◌∙◌}
 use Rattle.terms.specs.declared.Tested.{Tested}
-use Rattle.terms.specs.declared.Tested.TheVariants as Tested
 use Rattle.terms.specs.Otherwise.{on_tested}
 use Rattle.refusals.specs.Refusals.{rank, tested}
 use Rattle.block.specs.Block.{read_held}
 use Rattle.charges.specs.declared.Charge.{Charge}
-use Rattle.charges.specs.declared.Charge.TheVariants as Charge
 use Rattle.charges.specs.Lines.{lines_of}
 use Rattle.bills.specs.Bill.{bill}
 use Rattle.bills.proofs.Exact.{bill_unrefused}

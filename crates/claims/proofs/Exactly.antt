@@ -2,12 +2,9 @@
 use Rattle.std.specs.Prelude.{◌≡◌, refl, ◌↔◌, true, false, not, cond, List, ◌++◌, ℕ, ◌+◌, ◌*◌, ◌≤◌, eqb, ℤ, length, take, drop}
 use Rattle.std.proofs.Common.{sym, ap, ◌∙◌, subst, arith, ne_eqb, take-append-drop, take_at}
 use Rattle.terms.specs.declared.Answer.{Answer}
-use Rattle.terms.specs.declared.Answer.TheVariants as Answer
 use Rattle.terms.specs.declared.Atom.TheVariants.{Has}
 use Rattle.terms.specs.declared.Question.{Question}
-use Rattle.terms.specs.declared.Question.TheVariants as Question
 use Rattle.terms.specs.declared.Tested.{Tested}
-use Rattle.terms.specs.declared.Tested.TheVariants as Tested
 use Rattle.terms.specs.Tests.{true_of, of_true, differ}
 use Rattle.terms.specs.Limits.{LABEL_ENTRIES, LINK_ENTRIES}
 use Rattle.terms.specs.Held.{Held}
@@ -22,7 +19,6 @@ use Rattle.spans.proofs.Longest.{flat_length}
 use Rattle.places.specs.Layout.{SIZE, encode}
 use Rattle.block.specs.Block.{read_held, good}
 use Rattle.records.specs.declared.Command.{Command}
-use Rattle.records.specs.declared.Command.TheVariants as Command
 use Rattle.frames.specs.Frames.{length_field, body_of, used_for}
 use Rattle.decide.specs.Decides.{Yes, No, Spans, Reply, Contradiction, Answered, Never, Some, InAll, InOneNot}
 use Rattle.decide.specs.Answer.{answer}

@@ -2,12 +2,10 @@
 use Rattle.std.specs.Prelude.{◌≡◌, refl, Bool, true, false, cond, ◌||◌, List, [], ◌∷◌, ◌++◌, ℕ, ◌-◌, eqb, ltb, length}
 use Rattle.std.proofs.Common.{sym, ap, ◌∙◌, subst, true≢false, eqb→eq}
 use Rattle.terms.specs.declared.Tested.{Tested}
-use Rattle.terms.specs.declared.Tested.TheVariants as Tested
 use Rattle.terms.specs.Tests.{of_true}
 use Rattle.terms.specs.Held.{Held, empty_held}
 use Rattle.refusals.specs.Refusals.{Test, test, tested}
 use Rattle.records.specs.declared.Command.{Command}
-use Rattle.records.specs.declared.Command.TheVariants as Command
 use Rattle.frames.specs.Frames.{length_field, kind_field, body_of, is_unknown, lengths_of}
 use Rattle.records.specs.Records.{body_tests, command_in}
 use Rattle.frames.specs.Framing.{frame_tests}

@@ -2,11 +2,8 @@
 use Rattle.std.specs.Prelude.{◌≡◌, refl, Bool, true, false, not, List, [], ◌∷◌, ◌++◌, ℕ, ◌≤◌, ◌*◌, ℤ, length, take, drop}
 use Rattle.std.proofs.Common.{sym, ◌∙◌, subst, arith, length-append, length-drop, drop_at}
 use Rattle.terms.specs.declared.Answer.{Answer}
-use Rattle.terms.specs.declared.Answer.TheVariants as Answer
 use Rattle.terms.specs.declared.Question.{Question}
-use Rattle.terms.specs.declared.Question.TheVariants as Question
 use Rattle.terms.specs.declared.Tested.{Tested}
-use Rattle.terms.specs.declared.Tested.TheVariants as Tested
 use Rattle.terms.specs.Tests.{and_both, of_true}
 use Rattle.terms.specs.Limits.{LABEL_ENTRIES, LINK_ENTRIES}
 use Rattle.refusals.specs.Refusals.{test, tested}

@@ -5,9 +5,7 @@ use Rattle.std.proofs.Common.{sym, ap, ◌∙◌, subst, true≢false, append_as
 use Rattle.std.proofs.lemmas.List.{take-append-le}
 use Rattle.terms.specs.declared.Answer.TheVariants as Answer
 use Rattle.terms.specs.declared.Question.{Question}
-use Rattle.terms.specs.declared.Question.TheVariants as Question
 use Rattle.terms.specs.declared.Tested.{Tested}
-use Rattle.terms.specs.declared.Tested.TheVariants as Tested
 use Rattle.terms.specs.Tests.{true_of}
 use Rattle.refusals.specs.Refusals.{test, tested}
 use Rattle.terms.specs.Otherwise.{on_tested}
@@ -16,9 +14,7 @@ use Rattle.terms.specs.Lists.{limits}
 use Rattle.places.specs.Layout.{zeros, SIZE, encode}
 use Rattle.block.specs.Block.{read_held, good}
 use Rattle.records.specs.declared.Command.{Command}
-use Rattle.records.specs.declared.Command.TheVariants as Command
 use Rattle.records.specs.Parsed.{Parsed}
-use Rattle.records.specs.Parsed as Parsed
 use Rattle.records.specs.Records.{question_tests, decoded_as, parsed_body, parse}
 use Rattle.terms.specs.Spans.{flat}
 use Rattle.spans.proofs.Longest.{flat_length}

@@ -12,8 +12,6 @@ use Rattle.terms.specs.declared.Answer.TheVariants as Answer
 use Rattle.terms.specs.declared.Atom.TheVariants.{Has, Linked}
 use Rattle.terms.specs.declared.Hole.TheVariants.{Whole}
 use Rattle.terms.specs.declared.Question.{Question}
-use Rattle.terms.specs.declared.Question.TheVariants as Question
-use Rattle.terms.specs.declared.Tested.TheVariants as Tested
 use Rattle.terms.specs.Tests.{true_of, of_true, differ}
 use Rattle.terms.specs.Held.{Held, hole_in, is_statement, is_question}
 use Rattle.terms.specs.Lists.{every, limits}

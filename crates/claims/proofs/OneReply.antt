@@ -3,10 +3,8 @@ use Rattle.std.specs.Prelude.{◌≡◌, refl, ◌⊎◌, not, List, ◌∷◌, 
 use Rattle.std.proofs.Common.{sym, ap, ◌∙◌, subst, inl, inr, ⊎_elim, arith, take-append-drop, get_or-drop, ext_get_or}
 use Rattle.std.proofs.Math.Decide.{dec_lt}
 use Rattle.terms.specs.declared.Answer.{Answer}
-use Rattle.terms.specs.declared.Answer.TheVariants as Answer
 use Rattle.terms.specs.declared.Question.{Question}
 use Rattle.terms.specs.declared.Tested.{Tested}
-use Rattle.terms.specs.declared.Tested.TheVariants as Tested
 use Rattle.terms.specs.Limits.{ITEMS, INTERVALS, LABEL_ENTRIES, LINK_ENTRIES}
 use Rattle.terms.specs.Pairs.{pair_count}
 use Rattle.terms.specs.Held.{Held}

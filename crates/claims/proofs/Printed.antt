@@ -10,7 +10,6 @@ use Rattle.terms.specs.declared.Atom.TheVariants.{Has}
 use Rattle.terms.specs.declared.Mark.{Mark}
 use Rattle.terms.specs.declared.Profile.TheVariants.{On}
 use Rattle.terms.specs.declared.Question.{Question}
-use Rattle.terms.specs.declared.Question.TheVariants as Question
 use Rattle.terms.specs.Order.{ints}
 use Rattle.terms.specs.Tests.{and_both}
 use Rattle.terms.specs.Limits.{SHALLOWEST, DEEPEST, NO_TOP, NO_BOTTOM, NEVER}

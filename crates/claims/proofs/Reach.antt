@@ -26,7 +26,6 @@ use Rattle.terms.specs.Lists.{some, every, once, depth_count, limits}
 use Rattle.places.specs.Layout.{SIZE, encode}
 use Rattle.block.specs.Block.{good}
 use Rattle.records.specs.declared.Command.{Command}
-use Rattle.records.specs.declared.Command.TheVariants as Command
 use Rattle.records.specs.Parsed as Parsed
 use Rattle.records.specs.Records.{parse}
 use Rattle.commands.specs.Call.{Outcome, Changed, held_tests, obey}

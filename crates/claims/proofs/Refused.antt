@@ -6,10 +6,8 @@ use Rattle.std.proofs.Math.Bool.{true, false, cond}
 use mathlib.Core.List.{List, [], ◌∷◌, ◌++◌}
 use Rattle.std.proofs.Math.Dec.{eqb}
 use Rattle.terms.specs.declared.Answer.{Answer}
-use Rattle.terms.specs.declared.Answer.TheVariants as Answer
 use Rattle.terms.specs.declared.Question.{Question}
 use Rattle.terms.specs.declared.Tested.{Tested}
-use Rattle.terms.specs.declared.Tested.TheVariants as Tested
 use Rattle.refusals.specs.Refusals.{order, rank, Test, test, tested}
 use Rattle.refusals.proofs.Joining.{tested_append}
 use Rattle.refusals.proofs.Ranks.{thirteen_after_twelve, rank_ordered, rank_number, rank_lower}
@@ -18,7 +16,6 @@ use Rattle.terms.specs.Otherwise.{on_tested, or_else}
 use Rattle.terms.specs.Held.{◌∈◌, Held}
 use Rattle.block.specs.Block.{read_held, good}
 use Rattle.records.specs.declared.Command.{Command}
-use Rattle.records.specs.declared.Command.TheVariants as Command
 use Rattle.frames.specs.declared.Framed.TheVariants as Framed
 use Rattle.frames.specs.Frames.{length_field, kind_field, body_of, used_for}
 use Rattle.records.specs.Records.{body_tests, command_in, decoded_as, parsed_body, parsed_frame, parse}

@@ -2,7 +2,6 @@
 use Rattle.std.specs.Prelude.{◌≡◌, refl, ◌↔◌, Bool, true, false, cond, List, [], ◌++◌, ℕ, ◌≤◌, T, length, take}
 use Rattle.std.proofs.Common.{sym, ap, ◌∙◌, subst, true≢false, arith, length-append, take_at}
 use Rattle.terms.specs.declared.Answer.TheVariants as Answer
-use Rattle.codec.specs.Bytes.{bytes}
 use Rattle.terms.specs.Tests.{true_of, of_true, differ}
 use Rattle.terms.specs.declared.Tested.TheVariants as Tested
 use Rattle.refusals.specs.Refusals.{tested}
@@ -11,7 +10,6 @@ use Rattle.places.specs.Layout.{zeros, SIZE, encode}
 use Rattle.block.specs.Block.{read_held, good, unreadable, holds, decode}
 use Rattle.block.proofs.Round.{length_encode, encode_empty, read_encode, decode_encode, decode_holds}
 use Rattle.records.specs.declared.Command.{Command}
-use Rattle.records.specs.declared.Command.TheVariants as Command
 use Rattle.records.specs.Proper.{Proper, parse_proper}
 use Rattle.records.specs.Records.{parse}
 use Rattle.commands.specs.Call.{Outcome, Refused, held_tests, obey, judged, call}
@@ -24,7 +22,6 @@ use Rattle.claims.specs.Reference.{Fed, Result, Book, Entered, at_first, after_c
 use Rattle.claims.specs.Exact.{Holding}
 use Rattle.claims.specs.Lives.{fed, Event, Agrees, finished, recorded, beside, RunTo, from_zeros, by_record}
 use Rattle.claims.proofs.Told.{outcome, Told}
-use Rattle.claims.proofs.Told as Told
 use Rattle.claims.proofs.Life.{StaysLimited, Laws, judged_limited, call_then, lived}
 use Rattle.claims.proofs.Booked.{to_book, told_some, book_one, some_result}
 use Rattle.claims.proofs.Reach.{good_exactly}

@@ -19,7 +19,6 @@ use Rattle.terms.specs.Held.{operator_in, is_named, is_markable}
 use Rattle.terms.proofs.Ends.{mark_markable}
 use Rattle.terms.specs.Tests.{and_both}
 use Rattle.records.specs.declared.Command.{Command}
-use Rattle.records.specs.declared.Command.TheVariants as Command
 use Rattle.records.specs.Proper.{is_change, operator_bytes, rule_body, mark_body, change_kind, change_body, write, parse_write}
 use Rattle.claims.specs.Lives.{Bytes}
 use Rattle.claims.proofs.Reach.{Written}

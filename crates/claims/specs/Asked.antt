@@ -1,11 +1,10 @@
 -- The records of a question and of a shift, as bytes.
-use Rattle.std.specs.Prelude.{List, [], ◌∷◌, ℕ, ℤ}
+use Rattle.std.specs.Prelude.{List, ◌∷◌, ℕ, ℤ}
 use Rattle.std.specs.Int.{w32, w64}
 use Rattle.std.proofs.Common.{SFits}
 use Rattle.codec.specs.Bytes.{bytes_of_signed32, bytes_of_signed64}
 use Rattle.terms.specs.declared.Atom.TheVariants.{Has, Linked}
 use Rattle.terms.specs.declared.Question.{Question}
-use Rattle.terms.specs.declared.Question.TheVariants as Question
 use Rattle.claims.specs.Beside.{spans_record}
 
 -- 01, Records: a question as a record of kind 10, 11 or 12

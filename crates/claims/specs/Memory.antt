@@ -1,7 +1,6 @@
 -- What a call keeps of lent memory.
 use Rattle.std.specs.Prelude.{◌≡◌, List, ℕ, ◌+◌, ◌*◌, ◌≤◌, length, drop}
 use Rattle.terms.specs.declared.Answer.{Answer}
-use Rattle.terms.specs.declared.Answer.TheVariants as Answer
 use Rattle.terms.specs.Pairs.{pair_count}
 use Rattle.terms.specs.Limits.{DEPTHS, LABEL_ENTRIES, LINK_ENTRIES}
 use Rattle.places.specs.Layout.{SIZE}

@@ -1,7 +1,6 @@
 -- 01's book, here the reference machine: it is fed the bytes left and four lengths, and nothing else.
 use Rattle.std.specs.Prelude.{◌≡◌, false, List, [], ◌∷◌, ◌++◌, ℕ, ◌+◌, ◌<◌, ℤ, length}
 use Rattle.terms.specs.declared.Answer.{Answer}
-use Rattle.terms.specs.declared.Answer.TheVariants as Answer
 use Rattle.terms.specs.declared.Counting.{Counting}
 use Rattle.terms.specs.declared.Hole.TheVariants.{Part}
 use Rattle.terms.specs.declared.Mark.{Mark}
@@ -9,7 +8,6 @@ use Rattle.terms.specs.declared.Profile.TheVariants.{On}
 use Rattle.terms.specs.declared.Question.{Question}
 use Rattle.terms.specs.declared.Rule.{Rule}
 use Rattle.terms.specs.declared.Tested.{Tested}
-use Rattle.terms.specs.declared.Tested.TheVariants as Tested
 use Rattle.terms.specs.Held.{Held, with_rules, with_marks, with_counting, with_hole, with_profile, empty_held}
 use Rattle.terms.specs.Lists.{strike}
 use Rattle.refusals.specs.Refusals.{tested}

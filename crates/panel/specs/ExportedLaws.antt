@@ -3,7 +3,6 @@ use Rattle.std.specs.Prelude.{◌≡◌, refl, Bool, true, false, not, cond, ◌
 use Rattle.std.proofs.Common.{sym, ap, ◌∙◌, arith, le-ltb, ltb-false}
 use Rattle.terms.specs.declared.Answer.{Answer}
 use Rattle.terms.specs.declared.Question.{Question}
-use Rattle.terms.specs.declared.Question.TheVariants as Question
 use Rattle.terms.specs.declared.Settings.{Settings}
 use Rattle.terms.specs.Limits.{ITEMS, LABELS, is_item, is_label}
 use Rattle.refusals.specs.Refusals.{test, tested}
@@ -11,9 +10,7 @@ use Rattle.terms.specs.Held.{Held, is_question}
 use Rattle.block.specs.Block.{read_held}
 use Rattle.records.specs.declared.Command.TheVariants as Command
 use Rattle.records.specs.declared.Decoded.{Decoded}
-use Rattle.records.specs.declared.Decoded.TheVariants as Decoded
 use Rattle.records.specs.Records.{decoded_as, as_question, parsed_body}
-use Rattle.decide.specs.Decides.{Spans}
 use Rattle.commands.specs.Call.{judged, on_lent, span_call}
 use Rattle.commands.specs.Buffers.{Buffers, After, after}
 use Rattle.claims.proofs.SpanRecord.{span_as_record}

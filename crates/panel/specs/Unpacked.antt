@@ -9,7 +9,6 @@ use Rattle.commands.specs.Buffers.{Buffers}
 use Rattle.commands.specs.Call.{call, span_call}
 use Rattle.claims.proofs.Values.{call_value, span_value}
 use Rattle.charges.specs.declared.Charge.{Charge}
-use Rattle.charges.specs.declared.Charge.TheVariants as Charge
 use Rattle.charges.specs.Charges as Charges
 use Rattle.charges.specs.Charges.{total_or}
 use Rattle.service.specs.Tables.{Tables}

@@ -3,12 +3,6 @@ use mathlib.Core.Path.{◌∙◌, ap₂}
 use Rattle.commands.specs.Call.{span_call}
 use Rattle.commands.specs.Buffers.{lent}
 use Rattle.panel.specs.ExportedLaws.{span_packs}
-use Rattle.std.proofs.Common.{rules, ◌≡◌, ℕ, ◌+◌, ◌-◌, ◌*◌, ◌<◌, ◌≤◌, length, ◌/◌, ◌%◌, Bool, true, false, nat_eq, nat_lt, List, [], ◌∷◌, ◌++◌, slice_index_or, slice_set, bit_and, bit_or, Fits, w8, w32, w64, Bor, MutBor, arith, refl, ap}
-use Rattle.commands.specs.Call.{call}
-use Rattle.service.specs.Tables.{tables}
-use Rattle.service.specs.Charging.{charge_call}
-use Rattle.panel.specs.Exported.{halves, packed, returned, exported, packed_charge, returned_charge, exported_charge}
-use Rattle.panel.specs.ExportedLaws.{clamped}
 use Rattle.panel.proofs.harmikse_spans.Goals as goal
 
 pub returns : goal.returns
