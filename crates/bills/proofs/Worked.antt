@@ -1,8 +1,7 @@
 -- The rows are as the definitions have them: the computed charges by computing, and so the charges that must hold. Assumes nothing.
-use Rattle.std.specs.Prelude.{◌≡◌, refl, List, [], ◌∷◌, map, T}
+use Rattle.std.specs.Prelude.{◌≡◌, refl, List, [], ◌∷◌, map, T, Ok}
 use Rattle.std.proofs.Common.{sym, subst, ⊎_elim}
 use mathlib.Core.List.Memᴰ
-use Rattle.terms.specs.declared.Tested.TheVariants as Tested
 use Rattle.terms.specs.Held.{◌∈◌}
 use Rattle.terms.specs.Lists.{some, every, once, depth_count, limits}
 use Rattle.terms.proofs.Limited.{every_in, limited, in_range}
@@ -29,7 +28,7 @@ unfolding limits every once some depth_count
 within = tt
 
 -- and no item or line is refused
-pub accepted : map (λ r. tested (line_tests r.item r.lines)) rows ≡ map (λ r. Tested.Passed) rows
+pub accepted : map (λ r. tested (line_tests r.item r.lines)) rows ≡ map (λ r. Ok tt) rows
 unfolding every
 accepted = refl
 

@@ -1,17 +1,16 @@
 -- Parts laid one behind the other are one part, and over zeros they are the block's bytes: each is filled up with the zeros behind it. Assumes nothing.
 use mathlib.Core.Path.{◌≡◌, sym, ap, ◌∙◌}
-use mathlib.Core.List.{List, ◌++◌, append_assoc, map}
+use mathlib.Core.List.{List, ◌++◌, append_assoc}
 use Prim.Native.Nat.{ℕ, ◌+◌, ◌-◌, ◌*◌, ◌≤◌}
 use native.Mathlib.Nat.{zero-add}
 use native.Mathlib.Omega.{arith}
-use lib.ListN.{length, take, drop, length-append, replicate-append-replicate, length-map}
+use lib.ListN.{length, take, drop, length-append, replicate-append-replicate}
 use lib.Seq.{drop_at, length-take-le}
 use Rattle.codec.specs.Bytes.{put, bytes}
 use Rattle.codec.proofs.Laws.{put_put, length_bytes}
-use Rattle.terms.specs.declared.RulePlace.{RulePlace}
+use Rattle.terms.specs.declared.Rule.{Rule}
 use Rattle.terms.specs.declared.Mark.{Mark}
 use Rattle.terms.specs.Limits.{RULES, MARKS}
-use Rattle.terms.specs.Places.{rules_in}
 use Rattle.state.specs.declared.State.{State}
 use Rattle.state.specs.State.{held_of, CountsIn}
 use Rattle.places.specs.Layout.{
@@ -30,8 +29,7 @@ use Rattle.places.specs.Layout.{
   encode,
 }
 use Rattle.places.proofs.Sizes.{settings_size, rule_size, mark_size, length_zeros}
-use Rattle.block.specs.Places.{place_bytes_of}
-use Rattle.block.proofs.Tab.{cat_map, length_cat}
+use Rattle.block.proofs.Tab.{length_cat}
 
 pub zeros_add : (a b : ℕ) → zeros a ++ zeros b ≡ zeros (a + b)
 unfolding zeros
@@ -156,20 +154,20 @@ module _
 
 -- what a state's bytes are, by its own counts and places
 module _ (s : State) (in-places : CountsIn s) where
-  abbrev places : List RulePlace
-  places = take s.rule_count s.rules
+  abbrev rules : List Rule
+  rules = take s.rule_count s.rules
 
   abbrev marks : List Mark
   marks = take s.mark_count s.marks
 
-  places_many : length places ≡ s.rule_count
-  places_many = length-take-le s.rule_count s.rules (omega (arith, in-places.rule_places, in-places.few_rules))
+  rules_many : length rules ≡ s.rule_count
+  rules_many = length-take-le s.rule_count s.rules (omega (arith, in-places.rule_places, in-places.few_rules))
 
   marks_many : length marks ≡ s.mark_count
   marks_many = length-take-le s.mark_count s.marks (omega (arith, in-places.mark_places, in-places.few_marks))
 
-  places_fit : length (cat place_bytes_of places) ≤ RULES * RULE_BYTES
-  places_fit = omega (arith, length_cat place_bytes_of RULE_BYTES (λ p. rule_size p.rule) places, places_many, in-places.few_rules)
+  rules_fit : length (cat rule_bytes rules) ≤ RULES * RULE_BYTES
+  rules_fit = omega (arith, length_cat rule_bytes RULE_BYTES rule_size rules, rules_many, in-places.few_rules)
 
   marks_fit : length (cat mark_bytes marks) ≤ MARKS * MARK_BYTES
   marks_fit = omega (arith, length_cat mark_bytes MARK_BYTES mark_size marks, marks_many, in-places.few_marks)
@@ -181,29 +179,25 @@ module _ (s : State) (in-places : CountsIn s) where
   of_parts n m x =
       bytes 2 n ++ (bytes 2 m ++ (padded (HEADER - SETTINGS_AT) set ++ (padded (RULES * RULE_BYTES) x ++ padded (MARKS * MARK_BYTES) (cat mark_bytes marks))))
 
-  encoded : encode (held_of s) ≡ of_parts s.rule_count s.mark_count (cat place_bytes_of places)
-  unfolding encode rules_in
-  encoded =
-      let rules = cat rule_bytes (map (λ p. p.rule) places) in
-      ap (λ (n : ℕ). of_parts n (length marks) rules) (length-map places (λ p. p.rule) ∙ places_many)
-      ∙ ap (λ (n : ℕ). of_parts s.rule_count n rules) marks_many
-      ∙ ap (of_parts s.rule_count s.mark_count) (cat_map rule_bytes (λ p. p.rule) places)
+  encoded : encode (held_of s) ≡ of_parts s.rule_count s.mark_count (cat rule_bytes rules)
+  unfolding encode
+  encoded = ap (λ (n : ℕ). of_parts n (length marks) (cat rule_bytes rules)) rules_many ∙ ap (λ (n : ℕ). of_parts s.rule_count n (cat rule_bytes rules)) marks_many
 
   -- the stores one after the other
   pub stored :
       (t l1 l2 l3 l4 l5 l6 : List ℕ) → l1 ≡ zeros SIZE ++ t → l2 ≡ put l1 0 (bytes 2 s.rule_count) →
       l3 ≡ put l2 2 (bytes 2 s.mark_count) → l4 ≡ put l3 SETTINGS_AT set →
-      l5 ≡ put l4 HEADER (cat place_bytes_of places) → l6 ≡ put l5 MARKS_AT (cat mark_bytes marks) →
+      l5 ≡ put l4 HEADER (cat rule_bytes rules) → l6 ≡ put l5 MARKS_AT (cat mark_bytes marks) →
       l6 ≡ encode (held_of s) ++ t
   stored t l1 l2 l3 l4 l5 l6 e1 e2 e3 e4 e5 e6 =
       let a : List ℕ = bytes 2 s.rule_count in
       let b : List ℕ = bytes 2 s.mark_count in
-      let c : List ℕ = cat place_bytes_of places in
+      let c : List ℕ = cat rule_bytes rules in
       let d : List ℕ = cat mark_bytes marks in
       let f3 = e3 ∙ ap (λ (y : List ℕ). put y 2 b) (e2 ∙ ap (λ (y : List ℕ). put y 0 a) e1) in
       let f4 = e4 ∙ ap (λ (y : List ℕ). put y SETTINGS_AT set) f3 in
       let f5 = e5 ∙ ap (λ (y : List ℕ). put y HEADER c) f4 in
       e6
       ∙ ap (λ (y : List ℕ). put y MARKS_AT d) f5
-      ∙ packed t a b set c d (length_bytes 2 _) (length_bytes 2 _) (settings_size s.settings) places_fit marks_fit
+      ∙ packed t a b set c d (length_bytes 2 _) (length_bytes 2 _) (settings_size s.settings) rules_fit marks_fit
       ∙ ap (λ (y : List ℕ). y ++ t) (sym encoded)

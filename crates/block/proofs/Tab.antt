@@ -1,26 +1,41 @@
 -- The laws of `tab` and `cat`, for loops that fill an array and loops that lay parts, by induction over the list. Assumes nothing.
 use mathlib.Core.Path.{◌≡◌, refl, sym, ap, ◌∙◌}
-use mathlib.Core.List.{List, [], ◌∷◌, ◌++◌, append_assoc, append-nil, map, map-append}
+use mathlib.Core.List.{List, [], ◌∷◌, ◌++◌, append_assoc, append-nil}
 use Prim.Native.Nat.{ℕ, zero, suc, ◌+◌, ◌*◌, ◌≤◌, ◌<◌}
 use native.Mathlib.Nat.{mul-suc, mul-zero, mul-le-mul_left, le_of_lt, not-suc-le-zero, le_of_suc-le-suc}
 use native.Mathlib.Numerals.{add-one}
 use native.Mathlib.Omega.{arith}
-use lib.ListN.{length, get_or, take, set, length-append, get_or-append}
-use lib.Seq.{take-suc, take-suc-set, take_all, length-take-le, get_or-append-add}
+use lib.ListN.{length, get_or, take, set, length-set, length-append, get_or-append}
+use lib.Seq.{get_or-set_same, get_or-set_other, take-suc, take_all, length-take-le, get_or-append-add}
 use Rattle.codec.specs.Bytes.{put}
 use Rattle.codec.proofs.Laws.{put_put}
 use Rattle.places.specs.Layout.{cat}
 use Rattle.block.specs.Block.{tab}
+use Rattle.block.specs.Places.{Filled, ReadBy}
+use native.Mathlib.Decide.{ℕ_discrete}
 
--- a store of f i at i
-pub tab_more : {X : Type 0} (f : ℕ → X) (l : List X) (i : ℕ) (a : X) → i < length l → take i l ≡ tab f i → a ≡ f i → take (i + 1) (set l i a) ≡ tab f (i + 1)
-unfolding tab
-tab_more f l i a h e q = rw add-one (take-suc-set l i a h ∙ ap (λ x. x ++ (a ∷ [])) e ∙ ap (λ y. tab f i ++ (y ∷ [])) q)
+-- an array that is filled one by one
+pub read_none : {X : Type 0} (k : ℕ) (R : ℕ → X → Type 0) (xs : List X) → length xs ≡ k → ReadBy k 0 R xs
+read_none k R xs e = record { places = e; each = λ i d h. let z : ⊥ = omega arith in absurd z }
 
-pub map_tab : {X Y : Type 0} (g : X → Y) (f : ℕ → X) (n : ℕ) → map g (tab f n) ≡ tab (λ i. g (f i)) n
+pub read_more : {X : Type 0} (k n : ℕ) (R : ℕ → X → Type 0) (xs : List X) (x : X) → n < k → ReadBy k n R xs → R n x → ReadBy k (n + 1) R (set xs n x)
+read_more {X} k n R xs x h w r = record { places = length-set xs n x ∙ w.places; each = λ i d l. go i d l (ℕ_discrete i n) }
+  where
+    go : (i : ℕ) (d : X) → i < n + 1 → Dec (i ≡ n) → R i (get_or (set xs n x) i d)
+    go i d l (yes p) = rw (p, get_or-set_same xs n x d (omega (arith, w.places))) r
+    go i d l (no p) = rw (get_or-set_other xs n i x d p) (w.each i d (omega arith))
+
+tab_first : {X : Type 0} (f : ℕ → X) (xs : List X) (d : X) (n : ℕ) → n ≤ length xs → ((i : ℕ) → i < n → get_or xs i d ≡ f i) → take n xs ≡ tab f n
 unfolding tab
-map_tab g f zero = refl
-map_tab g f (suc n) = map-append g (tab f n) (f n ∷ []) ∙ ap (λ t. t ++ (g (f n) ∷ [])) (map_tab g f n)
+tab_first f xs d zero h e = refl
+tab_first f xs d (suc n) h e =
+    take-suc xs n d (omega arith)
+    ∙ ap (λ t. t ++ (get_or xs n d ∷ [])) (tab_first f xs d n (omega arith) (λ i l. e i (omega arith)))
+    ∙ ap (λ y. tab f n ++ (y ∷ [])) (e n (omega arith))
+
+pub filled_by : {X : Type 0} (k n : ℕ) (R : ℕ → X → Type 0) (f : ℕ → X) (xs : List X) (d : X) → n ≤ k → ((i : ℕ) (x : X) → R i x → x ≡ f i) → ReadBy k n R xs → Filled k n f xs
+filled_by k n R f xs d h g w =
+    record { places = w.places; first = tab_first f xs d n (omega (arith, w.places)) (λ i l. g i (get_or xs i d) (w.each i d l)) }
 
 pub length_tab : {X : Type 0} (f : ℕ → X) (n : ℕ) → length (tab f n) ≡ n
 unfolding tab
@@ -41,11 +56,6 @@ cat_append : {X : Type 0} (f : X → List ℕ) (xs ys : List X) → cat f (xs ++
 unfolding cat
 cat_append f [] ys = refl
 cat_append f (x ∷ xs) ys = ap (λ t. f x ++ t) (cat_append f xs ys) ∙ sym (append_assoc (f x) (cat f xs) (cat f ys))
-
-pub cat_map : {X Y : Type 0} (f : Y → List ℕ) (g : X → Y) (xs : List X) → cat f (map g xs) ≡ cat (λ x. f (g x)) xs
-unfolding cat
-cat_map f g [] = refl
-cat_map f g (x ∷ xs) = ap (λ t. f (g x) ++ t) (cat_map f g xs)
 
 -- parts of k bytes each
 module _ {X : Type 0} (f : X → List ℕ) (k : ℕ) (size : (x : X) → length (f x) ≡ k) where
@@ -73,7 +83,7 @@ module _ {X : Type 0} (f : X → List ℕ) (k : ℕ) (size : (x : X) → length 
     one i d h =
         rw (add-one, take-suc xs i d h, cat_append f (take i xs) (get_or xs i d ∷ []), append-nil)
 
-    pub lay_more : (i : ℕ) (d : X) → i < length xs →
+    lay_more : (i : ℕ) (d : X) → i < length xs →
         put (put l base (cat f (take i xs))) (base + k * i) (f (get_or xs i d)) ≡ put l base (cat f (take (i + 1) xs))
     lay_more i d h =
         let n : length (take i xs) ≡ i = length-take-le i xs (omega arith) in
@@ -81,3 +91,8 @@ module _ {X : Type 0} (f : X → List ℕ) (k : ℕ) (size : (x : X) → length 
         let b : base + k * i ≤ length l = omega (arith, mul-le-mul_left k (le_of_lt h)) in
         put_put l base (base + k * i) (cat f (take i xs)) (f (get_or xs i d)) s b
         ∙ ap (λ t. put l base t) (one i d h)
+
+    -- as a loop lays it
+    pub lay_next : (i : ℕ) (d : X) → i < length xs → (b y : List ℕ) → b ≡ put l base (cat f (take i xs)) → y ≡ put b (base + k * i) (f (get_or xs i d)) →
+        y ≡ put l base (cat f (take (i + 1) xs))
+    lay_next i d h b y e v = v ∙ ap (λ x. put x (base + k * i) (f (get_or xs i d))) e ∙ lay_more i d h

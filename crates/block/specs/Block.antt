@@ -1,10 +1,10 @@
 -- What a block holds, and whether it is good.
-use Rattle.std.specs.Prelude.{◌≡◌, Bool, true, false, cond, ◌&&◌, List, [], ◌∷◌, ◌++◌, ℕ, zero, suc, ◌+◌, ◌*◌, eqb, take}
+use Rattle.std.specs.Prelude.{◌≡◌, Bool, true, false, Option, Some, None, cond, ◌&&◌, List, [], ◌∷◌, ◌++◌, ℕ, zero, suc, ◌+◌, ◌*◌, eqb, take}
 use Rattle.codec.specs.Bytes.{little}
 use Rattle.terms.specs.Held.{Held}
 use Rattle.terms.specs.Lists.{limits}
 use Rattle.state.specs.State.{held_of, CountsIn}
-use Rattle.block.specs.declared.Loaded.{Loaded}
+use Rattle.state.specs.declared.State.{State}
 use Rattle.places.specs.Layout.{HEADER, RULE_BYTES, MARK_BYTES, MARKS_AT, SIZE, encode}
 use Rattle.places.specs.Read.{rule_read, mark_read, settings_at}
 
@@ -38,8 +38,13 @@ good b = limits (read_held b) && same_bytes (encode (read_held b)) (take SIZE b)
 unfoldable pub decode : List ℕ → Read
 decode b = cond (good b) (holds (read_held b)) unreadable
 
--- what loading a block tells
-pub record LoadedAs (b : List ℕ) (r : Loaded) : Type 0 where
-  pub verdict : r.good ≡ good b
-  pub held : r.good ≡ true → held_of r.state ≡ read_held b
-  pub counts : CountsIn r.state
+-- a state that is loaded from a good block
+pub record LoadedFrom (b : List ℕ) (s : State) : Type 0 where
+  pub verdict : good b ≡ true
+  pub held : held_of s ≡ read_held b
+  pub counts : CountsIn s
+
+-- what loading a block tells: a state exactly where it is good
+abbrev pub LoadedAs : List ℕ → Option State → Type 0
+LoadedAs b (Some s) = LoadedFrom b s
+LoadedAs b None = good b ≡ false

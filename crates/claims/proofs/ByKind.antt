@@ -1,13 +1,12 @@
 -- 01, State and tables, in its own words: what a call leaves, by what the record is and not by what is answered. Assumes nothing.
-use Rattle.std.specs.Prelude.{◌≡◌, refl, List, ℕ, ℤ}
+use Rattle.std.specs.Prelude.{◌≡◌, refl, List, ℕ, ℤ, Ok, Err}
 use Rattle.std.proofs.Common.{sym, ◌∙◌, inl, inr, ⊎_elim}
 use Rattle.terms.specs.declared.Answer.{Answer}
 use Rattle.terms.specs.declared.Atom.{Atom}
 use Rattle.terms.specs.declared.Question.{Question}
-use Rattle.terms.specs.declared.Tested.{Tested}
 use Rattle.terms.specs.Tests.{differ}
 use Rattle.terms.specs.Held.{Held}
-use Rattle.refusals.specs.Refusals.{tested}
+use Rattle.refusals.specs.Refusals.{Tested, tested}
 use Rattle.block.specs.Block.{read_held}
 use Rattle.commands.specs.Buffers.{Buffers}
 use Rattle.commands.specs.Call.{call}
@@ -57,8 +56,8 @@ unasked_keeps m s none = go (tested (rows m s)) refl
 
     go : (t : Tested) → tested (rows m s) ≡ t →
         ((call m s).buffers.labels ≡ m.labels) × ((call m s).buffers.links ≡ m.links) × ((call m s).buffers.spans ≡ m.spans)
-    go (Tested.Refused n) e = quiet (inr (inr (n, (refused_exactly m s n).1 e)))
-    go Tested.Passed e =
+    go (Err n) e = quiet (inr (inr (n, (refused_exactly m s n).1 e)))
+    go (Ok passed) e =
         let H = passed_holds m s e in
         ⊎_elim quiet (λ w. absurd (none (read_held m.block) w.0 (record { block = H; accepted = w.1 })))
         (by_step (call_steps (read_held m.block) m H s).1)

@@ -1,6 +1,6 @@
 -- 02, Slip 1, of the call: a charge that is not refused is exact, keeps what lies behind the tables, fits what C gets, and goes along with marks elsewhere,
 -- the profile, a shift and the mirror. Assumes nothing.
-use Rattle.std.specs.Prelude.{◌≡◌, refl, ◌↔◌, Bool, true, false, not, List, ◌∷◌, ◌++◌, ℕ, ◌+◌, ◌≤◌, ◌<◌, T, ℤ, length, take, drop}
+use Rattle.std.specs.Prelude.{◌≡◌, refl, ◌↔◌, Bool, true, false, not, List, ◌∷◌, ◌++◌, ℕ, ◌+◌, ◌≤◌, ◌<◌, T, ℤ, length, take, drop, Ok, Err}
 use Rattle.std.proofs.Common.{sym, ap, ◌∙◌, subst, arith, take-append-drop, take_at}
 use Rattle.std.proofs.lemmas.List.{take-append-le}
 use Rattle.terms.specs.declared.Answer.TheVariants as Answer
@@ -9,7 +9,6 @@ use Rattle.terms.specs.declared.Hole.TheVariants.{Part}
 use Rattle.terms.specs.declared.Mark.{Mark}
 use Rattle.terms.specs.declared.Profile.{Profile}
 use Rattle.terms.specs.declared.Question.TheVariants as Question
-use Rattle.terms.specs.declared.Tested.{Tested}
 use Rattle.terms.specs.Tests.{of_true, differ}
 use Rattle.terms.specs.Limits.{ITEMS, EVERY, LABEL_ENTRIES, LINK_ENTRIES}
 use Rattle.terms.specs.Lists.{limits}
@@ -17,7 +16,7 @@ use Rattle.places.specs.Layout.{SIZE, encode}
 use Rattle.terms.specs.Profiles.{is_every}
 use Rattle.terms.specs.Held.{◌∈◌, Held, hole_in, with_marks, with_profile, is_question}
 use Rattle.terms.proofs.Limited.{InRange}
-use Rattle.refusals.specs.Refusals.{test, tested}
+use Rattle.refusals.specs.Refusals.{Tested, test, tested}
 use Rattle.refusals.proofs.Joining.{clash}
 use Rattle.refusals.proofs.Ranks.{rank_number}
 use Rattle.logic.specs.Depths.{Derived}
@@ -72,7 +71,7 @@ module _ (m : Tables) (a : ℕ) (ns : List ℕ) where
   ls = lines_of ns
 
   -- its rows pass, and it is the bill of what is held
-  pub charging_passes : (h : Held) → Charging m a ns h → tested (charge_rows m a ns) ≡ Tested.Passed
+  pub charging_passes : (h : Held) → Charging m a ns h → tested (charge_rows m a ns) ≡ Ok tt
   charging_passes h C =
       ap (λ v. tested (test v 1 ∷ test (not (good m.block)) 2 ∷ line_tests a ls)) C.lent
       ∙ (ap (λ v. tested (test false 1 ∷ test (not v) 2 ∷ line_tests a ls)) (held_in m.block h C.block).1 ∙ C.in_order)
@@ -86,10 +85,10 @@ module _ (m : Tables) (a : ℕ) (ns : List ℕ) where
   charged_answer h C = ap (λ (r : AfterCharge). r.answer) (charged_as h C)
 
   -- what its rows pass is a charge on what the block holds
-  pub passed_charging : tested (charge_rows m a ns) ≡ Tested.Passed → Charging m a ns (read_held m.block)
+  pub passed_charging : tested (charge_rows m a ns) ≡ Ok tt → Charging m a ns (read_held m.block)
   passed_charging e = go (charge_short m ns) (good m.block) refl refl e
     where
-      go : (s g : Bool) → charge_short m ns ≡ s → good m.block ≡ g → tested (test s 1 ∷ test (not g) 2 ∷ line_tests a ls) ≡ Tested.Passed →
+      go : (s g : Bool) → charge_short m ns ≡ s → good m.block ≡ g → tested (test s 1 ∷ test (not g) 2 ∷ line_tests a ls) ≡ Ok tt →
           Charging m a ns (read_held m.block)
       go true g d f t = clash (sym t)
       go false false d f t = clash (sym t)
@@ -119,7 +118,7 @@ module _ (m : Tables) (a : ℕ) (ns : List ℕ) where
   charge_lent = subst (λ (r : AfterCharge). TablesKept m r.lent) (sym (charge_by_rows m a ns)) (go (tested (charge_rows m a ns)) refl)
     where
       go : (t : Tested) → tested (charge_rows m a ns) ≡ t → TablesKept m (by_rows m a ns t).lent
-      go Tested.Passed e =
+      go (Ok passed) e =
           let h = read_held m.block in
           let room = long (in_line ns) (length m.block) (length m.labels) (length m.links) (passed_charging e).lent in
           record {
@@ -127,7 +126,7 @@ module _ (m : Tables) (a : ℕ) (ns : List ℕ) where
             labels = written LABEL_ENTRIES (label_table h) m.labels (length_labels h) room.labels;
             links = written LINK_ENTRIES (link_table h) m.links (length_links h) room.links;
           }
-      go (Tested.Refused n) e = record { block = refl; labels = untouched LABEL_ENTRIES m.labels; links = untouched LINK_ENTRIES m.links }
+      go (Err n) e = record { block = refl; labels = untouched LABEL_ENTRIES m.labels; links = untouched LINK_ENTRIES m.links }
 
   -- ---- what C gets
 
@@ -137,8 +136,8 @@ module _ (m : Tables) (a : ℕ) (ns : List ℕ) where
   of_bill P refused billed = go (tested (charge_rows m a ns)) refl
     where
       go : (t : Tested) → tested (charge_rows m a ns) ≡ t → P (charge_call m a ns).answer
-      go Tested.Passed e = let h = read_held m.block in let C = passed_charging e in subst P (sym (charged_answer h C)) (billed h C)
-      go (Tested.Refused n) e =
+      go (Ok passed) e = let h = read_held m.block in let C = passed_charging e in subst P (sym (charged_answer h C)) (billed h C)
+      go (Err n) e =
           let f : (charge_call m a ns).answer ≡ Charge.Refused n = ap (λ (r : AfterCharge). r.answer) (charge_by_rows m a ns ∙ ap (by_rows m a ns) e) in
           subst P (sym f) (refused n f)
 
@@ -222,7 +221,7 @@ charge_contradicts m a A b ns h C l t =
 -- wherever it stands: on the memory of what the book holds there, it is a charge on that
 pub charge_lives :
     (h : Held) → T (limits h) → (mem : List ℕ) → mem ≡ encode h → (c : Lending) (a : ℕ) (ns : List ℕ) → charge_short (tables_of (lent_to mem c)) ns ≡ false →
-    tested (line_tests a (lines_of ns)) ≡ Tested.Passed → Charging (tables_of (lent_to mem c)) a ns h
+    tested (line_tests a (lines_of ns)) ≡ Ok tt → Charging (tables_of (lent_to mem c)) a ns h
 charge_lives h w mem e c a ns l t =
     let x = mem ++ c.behind in
     let size : length mem ≡ SIZE = ap length e ∙ laws.length_encode h (limited h w) in

@@ -1,9 +1,8 @@
 -- 02, Slip 1: a charge by its rows: when it is refused, and that it leaves the block, and refused everything. Assumes nothing.
-use Rattle.std.specs.Prelude.{◌≡◌, refl, ◌↔◌, List, ℕ, ◌≤◌}
+use Rattle.std.specs.Prelude.{◌≡◌, refl, ◌↔◌, List, ℕ, ◌≤◌, Ok, Err}
 use Rattle.std.proofs.Common.{sym, ap, ◌∙◌}
-use Rattle.terms.specs.declared.Tested.{Tested}
 use Rattle.terms.specs.Otherwise.{on_tested}
-use Rattle.refusals.specs.Refusals.{rank, tested}
+use Rattle.refusals.specs.Refusals.{rank, Tested, tested}
 use Rattle.block.specs.Block.{read_held}
 use Rattle.charges.specs.declared.Charge.{Charge}
 use Rattle.charges.specs.Lines.{lines_of}
@@ -28,19 +27,19 @@ pub charge_block : (m : Tables) (a : ℕ) (ns : List ℕ) → (charge_call m a n
 charge_block m a ns = ap (λ (r : AfterCharge). r.lent.block) (charge_by_rows m a ns) ∙ go (tested (charge_rows m a ns))
   where
     go : (t : Tested) → (by_rows m a ns t).lent.block ≡ m.block
-    go Tested.Passed = refl
-    go (Tested.Refused n) = refl
+    go (Ok passed) = refl
+    go (Err n) = refl
 
 -- 02, Slip 1: it is refused with n exactly if that is what its rows come to
-pub charge_refused : (m : Tables) (a : ℕ) (ns : List ℕ) (n : ℕ) → ((charge_call m a ns).answer ≡ Charge.Refused n) ↔ (tested (charge_rows m a ns) ≡ Tested.Refused n)
+pub charge_refused : (m : Tables) (a : ℕ) (ns : List ℕ) (n : ℕ) → ((charge_call m a ns).answer ≡ Charge.Refused n) ↔ (tested (charge_rows m a ns) ≡ Err n)
 charge_refused m a ns n = (
   λ e. there (tested (charge_rows m a ns)) (ap (λ (r : AfterCharge). r.answer) (sym (charge_by_rows m a ns)) ∙ e),
   λ e. ap (λ (r : AfterCharge). r.answer) (charge_by_rows m a ns ∙ ap (by_rows m a ns) e),
 )
   where
-    there : (t : Tested) → (by_rows m a ns t).answer ≡ Charge.Refused n → t ≡ Tested.Refused n
-    there Tested.Passed e = absurd (bill_unrefused (read_held m.block) a (lines_of ns) n e)
-    there (Tested.Refused k) e = let f : k ≡ n = cc in ap Tested.Refused f
+    there : (t : Tested) → (by_rows m a ns t).answer ≡ Charge.Refused n → t ≡ Err n
+    there (Ok passed) e = absurd (bill_unrefused (read_held m.block) a (lines_of ns) n e)
+    there (Err k) e = let f : k ≡ n = cc in ap Err f
 
 -- the rows ascend by rank: 1, 2, 6, 13
 pub charge_rows_ascend : (m : Tables) (a : ℕ) (ns : List ℕ) → Ascends (rank 1) (rank 13) (charge_rows m a ns)

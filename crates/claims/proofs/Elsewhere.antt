@@ -1,11 +1,10 @@
 -- 02, Slip 7, of the calls that ask: with all but marks the same, marks on items that are joined to the question's neither before nor after alter no
 -- answer. Assumes nothing.
-use Rattle.std.specs.Prelude.{◌≡◌, refl, Bool, true, false, cond, List, [], ◌∷◌, ℕ, ◌+◌, ◌*◌, T, eqb, length, take, drop}
+use Rattle.std.specs.Prelude.{◌≡◌, refl, Bool, true, false, cond, List, [], ◌∷◌, ℕ, ◌+◌, ◌*◌, T, eqb, length, take, drop, Ok}
 use Rattle.std.proofs.Common.{sym, ap, ◌∙◌, subst, take_at}
 use Rattle.terms.specs.declared.Answer.{Answer}
 use Rattle.terms.specs.declared.Mark.{Mark}
 use Rattle.terms.specs.declared.Question.{Question}
-use Rattle.terms.specs.declared.Tested.TheVariants as Tested
 use Rattle.terms.specs.Held.{Held, with_marks, is_question}
 use Rattle.terms.proofs.Limited.{limited, in_range}
 use Rattle.terms.specs.Pairs.{pairs_of}
@@ -73,7 +72,7 @@ module _ (h : Held) (ms : List Mark) (m n : Buffers) where
     };
   }
     where
-      enough : (v : Bool) → tested (table v false h s) ≡ Tested.Passed → tested (table false false h s) ≡ Tested.Passed
+      enough : (v : Bool) → tested (table v false h s) ≡ Ok tt → tested (table false false h s) ≡ Ok tt
       enough true p = differ (cc)
       enough false p = p
 

@@ -1,15 +1,14 @@
 -- Demand 2 of the record call: its answers, the span buffer and both tables are exact. Assumes nothing.
-use Rattle.std.specs.Prelude.{◌≡◌, refl, ◌↔◌, true, false, not, cond, List, ◌++◌, ℕ, ◌+◌, ◌*◌, ◌≤◌, eqb, ℤ, length, take, drop}
+use Rattle.std.specs.Prelude.{◌≡◌, refl, ◌↔◌, true, false, not, cond, List, ◌++◌, ℕ, ◌+◌, ◌*◌, ◌≤◌, eqb, ℤ, length, take, drop, Ok}
 use Rattle.std.proofs.Common.{sym, ap, ◌∙◌, subst, arith, ne_eqb, take-append-drop, take_at}
 use Rattle.terms.specs.declared.Answer.{Answer}
 use Rattle.terms.specs.declared.Atom.TheVariants.{Has}
 use Rattle.terms.specs.declared.Question.{Question}
-use Rattle.terms.specs.declared.Tested.{Tested}
 use Rattle.terms.specs.Tests.{true_of, of_true, differ}
 use Rattle.terms.specs.Limits.{LABEL_ENTRIES, LINK_ENTRIES}
 use Rattle.terms.specs.Held.{Held}
 use Rattle.logic.specs.Depths.{Derived}
-use Rattle.refusals.specs.Refusals.{tested}
+use Rattle.refusals.specs.Refusals.{Tested, tested}
 use Rattle.terms.specs.Otherwise.{on_tested}
 use Rattle.terms.specs.Spans.{Run, Longest, flat}
 use Rattle.line.specs.Intervals.{interval, count}
@@ -172,7 +171,7 @@ module _ (m : Buffers) (s : List ℕ) (h : Held) (q : Question) (a : Asking m s 
   abbrev used : ℕ
   used = length_field s + 2
 
-  nothing_applies : tested (table (short m) (not (good m.block)) h s) ≡ Tested.Passed
+  nothing_applies : tested (table (short m) (not (good m.block)) h s) ≡ Ok tt
   nothing_applies = ap (λ g. tested (table (short m) (not g) h s)) (held_in m.block h a.block).1 ∙ a.accepted.passes
 
   record_left : eqb (length s) 0 ≡ false

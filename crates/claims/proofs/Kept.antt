@@ -1,5 +1,5 @@
 -- Every accepted record keeps the limits. Assumes nothing.
-use Rattle.std.specs.Prelude.{◌≡◌, Bool, true, false, not, List, [], ◌∷◌, ◌++◌, ℕ, T, ltb, leb, ℤ, length}
+use Rattle.std.specs.Prelude.{◌≡◌, Bool, true, false, not, List, [], ◌∷◌, ◌++◌, ℕ, T, ltb, leb, ℤ, length, Ok}
 use Rattle.std.proofs.Common.{sym, subst, ⊎_elim, arith, nltb→le, length-append}
 use mathlib.Core.List.Memᴰ
 use Rattle.std.proofs.Math.Dec.{nleb→lt}
@@ -8,7 +8,6 @@ use Rattle.terms.specs.declared.Rule.{Rule}
 use Rattle.terms.specs.declared.Mark.{Mark}
 use Rattle.terms.specs.declared.Settings.{Settings}
 use Rattle.terms.specs.Limits.{RULES, MARKS, DEPTHS}
-use Rattle.terms.specs.declared.Tested.TheVariants as Tested
 use Rattle.refusals.specs.Refusals.{Test, test, tested}
 use Rattle.terms.specs.declared.Hole.TheVariants.{Part}
 use Rattle.terms.specs.declared.Profile.TheVariants.{On}
@@ -43,7 +42,7 @@ use Rattle.settings.specs.Changes.{confine_tests, restrict_tests}
 
 -- ---- a test that does not apply
 
-pub passed : (b : Bool) (n : ℕ) (ts : List Test) → tested (test b n ∷ ts) ≡ Tested.Passed → T (not b) × (tested ts ≡ Tested.Passed)
+pub passed : (b : Bool) (n : ℕ) (ts : List Test) → tested (test b n ∷ ts) ≡ Ok tt → T (not b) × (tested ts ≡ Ok tt)
 passed true n ts e = differ (cc)
 passed false n ts e = (tt, e)
 
@@ -73,7 +72,7 @@ empty_limited = record {
   admitted = tt;
 }
 
-pub added_limited : (h : Held) (ρ : Rule) → Limited h → T (is_rule ρ) → tested (rule_tests h ρ) ≡ Tested.Passed → Limited (add_rule h ρ)
+pub added_limited : (h : Held) (ρ : Rule) → Limited h → T (is_rule ρ) → tested (rule_tests h ρ) ≡ Ok tt → Limited (add_rule h ρ)
 added_limited h ρ w p e =
     let o = passed (not (admits (profile_in h) ρ)) 20 (list_tests h ρ) e in
     let t = passed (some (same_rule ρ) h.rules) 9 (test (leb RULES (length h.rules)) 11 ∷ []) o.1 in
@@ -91,7 +90,7 @@ added_limited h ρ w p e =
       admitted = every_snoc (admits (profile_in h)) h.rules ρ w.admitted (twice (admits (profile_in h) ρ) o.0);
     }
 
-pub put_limited : (h : Held) (m : Mark) → Limited h → T (is_mark m) → tested (put_tests h m) ≡ Tested.Passed → Limited (put_mark h m)
+pub put_limited : (h : Held) (m : Mark) → Limited h → T (is_mark m) → tested (put_tests h m) ≡ Ok tt → Limited (put_mark h m)
 put_limited h m w p e =
     let full = test (leb MARKS (length h.marks)) 11 in
     let deep = test (ltb DEPTHS (depth_count (ends_of (h.marks ++ (m ∷ []))))) 12 in
@@ -132,7 +131,7 @@ pub counted_limited : (h : Held) (c : Counting) → Limited h → Limited (with_
 counted_limited h c w = set_limited h (with_counting h c).settings w w.settings w.inside w.admitted
 
 -- a hole, where no mark is held
-pub confined_limited : (h : Held) (t b : ℤ) → Limited h → T (is_hole (Part t b)) → tested (confine_tests h) ≡ Tested.Passed → Limited (with_hole h (Part t b))
+pub confined_limited : (h : Held) (t b : ℤ) → Limited h → T (is_hole (Part t b)) → tested (confine_tests h) ≡ Ok tt → Limited (with_hole h (Part t b))
 unfolding every
 confined_limited h t b w p e =
     set_limited h (with_hole h (Part t b)).settings w p (none h.marks (passed (ltb 0 (length h.marks)) 17 [] e).0) w.admitted
@@ -142,11 +141,11 @@ confined_limited h t b w p e =
     none (m ∷ ms) u = let z : ⊥ = omega (arith, nltb→le 0 (length (m ∷ ms)) u) in absurd z
 
 -- a shift, where no depth leaves its range
-pub shifted_limited : (h : Held) (c : ℤ) → Limited h → tested (shift_tests h c) ≡ Tested.Passed → Limited (shifted c h)
+pub shifted_limited : (h : Held) (c : ℤ) → Limited h → tested (shift_tests h c) ≡ Ok tt → Limited (shifted c h)
 shifted_limited h c w e = shift_limited c h (twice (stays c h) (passed (not (stays c h)) 8 [] e).0) w
 
 -- the profile, where no rule outside it is held
-pub restricted_limited : (h : Held) → Limited h → tested (restrict_tests h) ≡ Tested.Passed → Limited (with_profile h On)
+pub restricted_limited : (h : Held) → Limited h → tested (restrict_tests h) ≡ Ok tt → Limited (with_profile h On)
 restricted_limited h w e =
     set_limited h (with_profile h On).settings w w.settings w.inside
     (twice (every in_profile h.rules) (passed (not (every in_profile h.rules)) 20 [] e).0)

@@ -1,10 +1,9 @@
 -- What is shown of each kind is shown of all: the book's rows are the tests by which a record is read. Assumes nothing.
-use Rattle.std.specs.Prelude.{◌≡◌, refl, Bool, true, false, cond, ◌||◌, List, [], ◌∷◌, ◌++◌, ℕ, ◌-◌, eqb, ltb, length}
+use Rattle.std.specs.Prelude.{◌≡◌, refl, Bool, true, false, cond, ◌||◌, List, [], ◌∷◌, ◌++◌, ℕ, ◌-◌, eqb, ltb, length, Err}
 use Rattle.std.proofs.Common.{sym, ap, ◌∙◌, subst, true≢false, eqb→eq}
-use Rattle.terms.specs.declared.Tested.{Tested}
 use Rattle.terms.specs.Tests.{of_true}
 use Rattle.terms.specs.Held.{Held, empty_held}
-use Rattle.refusals.specs.Refusals.{Test, test, tested}
+use Rattle.refusals.specs.Refusals.{Test, Tested, test, tested}
 use Rattle.records.specs.declared.Command.{Command}
 use Rattle.frames.specs.Frames.{length_field, kind_field, body_of, is_unknown, lengths_of}
 use Rattle.records.specs.Records.{body_tests, command_in}
@@ -101,7 +100,7 @@ record_rows_lem h k b =
 -- ---- rows from 3 on
 
 three : (a b c : Bool) (t : Tested) →
-    cond a (Tested.Refused 3) (cond b (Tested.Refused 3) (cond c (Tested.Refused 3) t)) ≡ cond (a || (b || c)) (Tested.Refused 3) t
+    cond a (Err 3) (cond b (Err 3) (cond c (Err 3) t)) ≡ cond (a || (b || c)) (Err 3) t
 three true b c t = refl
 three false true c t = refl
 three false false c t = refl
@@ -122,9 +121,9 @@ input_rows_lem h s = go (eqb (length s) 0)
     go true = refl
     go false =
         three (ltb (length s) 4) (ltb (length_field s) 2) (ltb (length s - 2) (length_field s))
-        (cond (unknown_kind s) (Tested.Refused 4) (cond (wrong_length s) (Tested.Refused 5) (tested (record_tests h k (body_of s)))))
+        (cond (unknown_kind s) (Err 4) (cond (wrong_length s) (Err 5) (tested (record_tests h k (body_of s)))))
         ∙ ap (λ (t : Tested).
-        cond (broken_frame s) (Tested.Refused 3) (cond (unknown_kind s) (Tested.Refused 4) (cond (wrong_length s) (Tested.Refused 5) t)))
+        cond (broken_frame s) (Err 3) (cond (unknown_kind s) (Err 4) (cond (wrong_length s) (Err 5) t)))
         (record_rows_lem h k (body_of s))
 
 -- ---- what a record says

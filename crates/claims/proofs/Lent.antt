@@ -1,12 +1,11 @@
 -- Demand 1, the memory: every call keeps each lent length, and what lies behind the part that is the call's. Assumes nothing.
-use Rattle.std.specs.Prelude.{◌≡◌, refl, Bool, true, false, not, List, [], ◌∷◌, ◌++◌, ℕ, ◌≤◌, ◌*◌, ℤ, length, take, drop}
+use Rattle.std.specs.Prelude.{◌≡◌, refl, Bool, true, false, not, List, [], ◌∷◌, ◌++◌, ℕ, ◌≤◌, ◌*◌, ℤ, length, take, drop, Ok, Err}
 use Rattle.std.proofs.Common.{sym, ◌∙◌, subst, arith, length-append, length-drop, drop_at}
 use Rattle.terms.specs.declared.Answer.{Answer}
 use Rattle.terms.specs.declared.Question.{Question}
-use Rattle.terms.specs.declared.Tested.{Tested}
 use Rattle.terms.specs.Tests.{and_both, of_true}
 use Rattle.terms.specs.Limits.{LABEL_ENTRIES, LINK_ENTRIES}
-use Rattle.refusals.specs.Refusals.{test, tested}
+use Rattle.refusals.specs.Refusals.{Tested, test, tested}
 use Rattle.refusals.proofs.Joining.{clash}
 use Rattle.terms.specs.Otherwise.{on_tested}
 use Rattle.terms.specs.Held.{Held}
@@ -82,7 +81,7 @@ module _ (h : Held) (w : Limited h) (m : Buffers) (room : Enough (length m.block
   effect_kept (Asked q u) k = replied_kept u (answer h q) (λ rs e. spans_fit h (few_cuts h w) q rs e)
 
 -- where no test of lent memory applies enough is lent, and the block is good
-none_lent : (p g : Bool) → tested (test p 1 ∷ test (not g) 2 ∷ []) ≡ Tested.Passed → (p ≡ false) × (g ≡ true)
+none_lent : (p g : Bool) → tested (test p 1 ∷ test (not g) 2 ∷ []) ≡ Ok tt → (p ≡ false) × (g ≡ true)
 none_lent true g e = clash (sym e)
 none_lent false true e = (refl, refl)
 none_lent false false e = clash (sym e)
@@ -98,13 +97,13 @@ lent_kept m o k = go (tested (lent_tests m)) (λ e. none_lent (short m) (good m.
     h = read_held m.block
 
     go :
-        (t : Tested) → (t ≡ Tested.Passed → (short m ≡ false) × (good m.block ≡ true)) →
+        (t : Tested) → (t ≡ Ok tt → (short m ≡ false) × (good m.block ≡ true)) →
         let r = on_tested (effect h m o) (λ n. after (Answer.Refused n) 0 m) t in LentKept r.answer m r.buffers
-    go Tested.Passed f =
+    go (Ok passed) f =
         let (s, g) = f refl in
         let w = good_limited m.block g in
         effect_kept h w m (enough (length m.block) (length m.labels) (length m.links) (length m.spans) s) o (k w)
-    go (Tested.Refused n) f = all_kept (Answer.Refused n) m refl
+    go (Err n) f = all_kept (Answer.Refused n) m refl
 
 -- demand 1: every lent length and every tail is kept, whatever is lent and whatever the input
 pub call_lent : (m : Buffers) (s : List ℕ) → LentKept (call m s).answer m (call m s).buffers
@@ -112,8 +111,8 @@ unfolding call
 call_lent m s = let h = read_held m.block in lent_kept m (judged h (parse h.settings s)) (λ w. judged_limited laws h s w)
 
 asked_limited : (h : Held) (q : Question) (t : Tested) → StaysLimited (judged h (parsed_body (decoded_as t (Command.Ask q)) [] 0))
-asked_limited h q Tested.Passed = tt
-asked_limited h q (Tested.Refused n) = tt
+asked_limited h q (Ok passed) = tt
+asked_limited h q (Err n) = tt
 
 -- and so by the span call beside the records
 pub span_lent : (m : Buffers) (a A : ℕ) → LentKept (span_call m a A).answer m (span_call m a A).buffers

@@ -1,13 +1,12 @@
 -- Over every list of calls the record call and the reference machine agree, at every place, under `Laws` of the layout and of
 -- records, which Whole proves.
-use Rattle.std.specs.Prelude.{◌≡◌, refl, Bool, true, false, not, cond, List, [], ◌∷◌, ◌++◌, ℕ, ◌≤◌, ◌+◌, ◌*◌, min, T, length, take, drop}
+use Rattle.std.specs.Prelude.{◌≡◌, refl, Bool, true, false, not, cond, List, [], ◌∷◌, ◌++◌, ℕ, ◌≤◌, ◌+◌, ◌*◌, min, T, length, take, drop, Ok, Err}
 use Rattle.std.proofs.Common.{sym, ap, ◌∙◌, subst, true≢false, append_assoc, length-append, length-take, take-append-drop, take_at}
 use Rattle.std.proofs.lemmas.List.{take-append-le}
 use Rattle.terms.specs.declared.Answer.TheVariants as Answer
 use Rattle.terms.specs.declared.Question.{Question}
-use Rattle.terms.specs.declared.Tested.{Tested}
 use Rattle.terms.specs.Tests.{true_of}
-use Rattle.refusals.specs.Refusals.{test, tested}
+use Rattle.refusals.specs.Refusals.{Tested, test, tested}
 use Rattle.terms.specs.Otherwise.{on_tested}
 use Rattle.terms.specs.Held.{Held, empty_held}
 use Rattle.terms.specs.Lists.{limits}
@@ -77,14 +76,14 @@ replied_block h m u (Answered (Spans rs)) = refl
 lent_block_kept :
     (h : Held) (m : Buffers) (o : Outcome) (t : Tested) → (effect h m o).buffers.block ≡ m.block →
     (on_tested (effect h m o) (λ n. after (Answer.Refused n) 0 m) t).buffers.block ≡ m.block
-lent_block_kept h m o Tested.Passed e = e
-lent_block_kept h m o (Tested.Refused n) e = refl
+lent_block_kept h m o (Ok passed) e = e
+lent_block_kept h m o (Err n) e = refl
 
 -- a question beside the records, by what its tests came to
 asked_block :
     (h : Held) (m : Buffers) (q : Question) (t : Tested) → (effect h m (judged h (parsed_body (decoded_as t (Command.Ask q)) [] 0))).buffers.block ≡ m.block
-asked_block h m q Tested.Passed = replied_block h m 0 (answer h q)
-asked_block h m q (Tested.Refused n) = refl
+asked_block h m q (Ok passed) = replied_block h m 0 (answer h q)
+asked_block h m q (Err n) = refl
 
 -- 01, State and tables: every call beside the records leaves the block unchanged
 pub beside_keeps : (q : BesideCall) (m : Buffers) → block_after q m ≡ m.block
@@ -104,7 +103,7 @@ pub record Laws : Type 0 where
   pub good_encode : (h : Held) (t : List ℕ) → T (limits h) → T (good (encode h ++ t))
   pub accepted :
       (h : Held) (s : List ℕ) (c : Command) (b : List ℕ) (u : ℕ) → Limited h → parse h.settings s ≡ Parsed.Record c b u →
-      tested (held_tests h c b) ≡ Tested.Passed → StaysLimited (obey h c b u)
+      tested (held_tests h c b) ≡ Ok tt → StaysLimited (obey h c b u)
 
 module _ (𝓛 : Laws) where
   pub judged_limited : (h : Held) (s : List ℕ) → Limited h → StaysLimited (judged h (parse h.settings s))
@@ -113,8 +112,8 @@ module _ (𝓛 : Laws) where
       pick :
           (c : Command) (b : List ℕ) (u : ℕ) → parse h.settings s ≡ Parsed.Record c b u → (t : Tested) → tested (held_tests h c b) ≡ t →
           StaysLimited (on_tested (obey h c b u) (λ n. Refused n u) t)
-      pick c b u e Tested.Passed f = 𝓛.accepted h s c b u w e f
-      pick c b u e (Tested.Refused n) f = tt
+      pick c b u e (Ok passed) f = 𝓛.accepted h s c b u w e f
+      pick c b u e (Err n) f = tt
 
       go : (p : Parsed) → parse h.settings s ≡ p → StaysLimited (judged h p)
       go Parsed.Nothing e = tt

@@ -1,14 +1,13 @@
 -- All that is claimed of a record call leaves nothing open: the call's reply meets it, and whatever reply does is the call's. Assumes nothing.
-use Rattle.std.specs.Prelude.{◌≡◌, refl, ◌⊎◌, not, List, ◌∷◌, ◌++◌, ℕ, ◌<◌, ◌+◌, ◌*◌, ◌-◌, ◌/◌, ◌%◌, get_or, take, drop}
+use Rattle.std.specs.Prelude.{◌≡◌, refl, ◌⊎◌, not, List, ◌∷◌, ◌++◌, ℕ, ◌<◌, ◌+◌, ◌*◌, ◌-◌, ◌/◌, ◌%◌, get_or, take, drop, Ok, Err}
 use Rattle.std.proofs.Common.{sym, ap, ◌∙◌, subst, inl, inr, ⊎_elim, arith, take-append-drop, get_or-drop, ext_get_or}
 use Rattle.std.proofs.Math.Decide.{dec_lt}
 use Rattle.terms.specs.declared.Answer.{Answer}
 use Rattle.terms.specs.declared.Question.{Question}
-use Rattle.terms.specs.declared.Tested.{Tested}
 use Rattle.terms.specs.Limits.{ITEMS, INTERVALS, LABEL_ENTRIES, LINK_ENTRIES}
 use Rattle.terms.specs.Pairs.{pair_count}
 use Rattle.terms.specs.Held.{Held}
-use Rattle.refusals.specs.Refusals.{test, tested}
+use Rattle.refusals.specs.Refusals.{Tested, test, tested}
 use Rattle.places.specs.Layout.{SIZE, encode}
 use Rattle.block.specs.Block.{read_held, good}
 use Rattle.commands.specs.Buffers.{Buffers, lent, After, after, short}
@@ -98,7 +97,7 @@ by_step (restricted a) = inl (inl refl)
 by_step (answered {q = q} r a d) = inr (q, a)
 
 -- where no row applies the block holds what is read off it
-pub passed_holds : (m : Buffers) (s : List ℕ) → tested (rows m s) ≡ Tested.Passed → Holding m.block (read_held m.block)
+pub passed_holds : (m : Buffers) (s : List ℕ) → tested (rows m s) ≡ Ok tt → Holding m.block (read_held m.block)
 passed_holds m s e =
     let b = not (good m.block) in
     let w = passed (short m) 1 (test b 2 ∷ input_rows (read_held m.block) s) e in
@@ -106,7 +105,7 @@ passed_holds m s e =
     good_holding m.block (twice (good m.block) v.0)
 
 module _ (m : Buffers) (s : List ℕ) (r k : After) (R : Claimed m s r) (K : Claimed m s k) where
-  refused_one : (n : ℕ) → tested (rows m s) ≡ Tested.Refused n → r ≡ k
+  refused_one : (n : ℕ) → tested (rows m s) ≡ Err n → r ≡ k
   refused_one n e =
       let a = (R.refuses n).1 e in
       let b = (K.refuses n).1 e in
@@ -172,8 +171,8 @@ module _ (m : Buffers) (s : List ℕ) (r k : After) (R : Claimed m s r) (K : Cla
   claimed_one = go (tested (rows m s)) refl
     where
       go : (t : Tested) → tested (rows m s) ≡ t → r ≡ k
-      go (Tested.Refused n) e = refused_one n e
-      go Tested.Passed e =
+      go (Err n) e = refused_one n e
+      go (Ok passed) e =
           accepted_one (read_held m.block) (passed_holds m s e)
 
 -- whatever meets all that is claimed is what the call gives: answer, bytes used and every lent number

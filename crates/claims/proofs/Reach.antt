@@ -1,6 +1,6 @@
 -- A block is good exactly if a run of records from zeros leads to it, under `Laws` and with records for rules, marks,
 -- countings, holes and the profile, which Whole gives.
-use Rattle.std.specs.Prelude.{◌≡◌, ◌↔◌, Bool, true, false, not, ◌||◌, List, [], ◌∷◌, ◌++◌, ℕ, ◌≤◌, ◌<◌, ◌+◌, T, ltb, leb, ℤ, pos, length, take, drop, replicate}
+use Rattle.std.specs.Prelude.{◌≡◌, ◌↔◌, Bool, true, false, not, ◌||◌, List, [], ◌∷◌, ◌++◌, ℕ, ◌≤◌, ◌<◌, ◌+◌, T, ltb, leb, ℤ, pos, length, take, drop, replicate, Ok}
 use Rattle.std.proofs.Math.Path.{refl}
 use Rattle.std.proofs.Common.{sym, ap, ◌∙◌, subst, ⊎_elim, append_assoc, append-nil, arith, ltb→lt, leb→le, length-append, take-append-drop}
 use mathlib.Core.List.Memᴰ
@@ -15,7 +15,6 @@ use Rattle.terms.specs.declared.Mark.{Mark}
 use Rattle.terms.specs.Tests.{and_both, true_of, false_of}
 use Rattle.terms.specs.Limits.{RULES, MARKS, DEPTHS, LABEL_ENTRIES, LINK_ENTRIES, SPAN_NUMBERS}
 use Rattle.terms.specs.declared.Settings.{Settings}
-use Rattle.terms.specs.declared.Tested.TheVariants as Tested
 use Rattle.refusals.specs.Refusals.{tested}
 use Rattle.terms.specs.Holes.{is_hole, lies_in}
 use Rattle.terms.specs.Profiles.{admits}
@@ -129,7 +128,7 @@ module _ (𝓛 : Laws) (rule-record : (σ : Settings) (ρ : Rule) → T (is_rule
   lending = record { labels = labels_lent; links = links_lent; spans = spans_lent; lend = SIZE; behind = [] }
 
   one_more_record :
-      (h k : Held) (c : Command) (w : Written h.settings c) → tested (held_tests h c w.body) ≡ Tested.Passed →
+      (h k : Held) (c : Command) (w : Written h.settings c) → tested (held_tests h c w.body) ≡ Ok tt →
       ((u : ℕ) → obey h c w.body u ≡ Changed k u) → Reached h → Reached k
   one_more_record h k c w e f R =
       let a = not_short (length labels_lent) LABEL_ENTRIES (omega (arith, labels_long)) in

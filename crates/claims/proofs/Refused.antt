@@ -1,5 +1,5 @@
 -- Demand 1, the numbers: the call by its rows, refused with the lowest number that applies, by rank, or accepted. Assumes nothing.
-use Rattle.std.specs.Prelude.{◌≡◌, ◌↔◌, Bool, not, ℕ, ◌+◌, ◌≤◌, ◌<◌, T, length}
+use Rattle.std.specs.Prelude.{◌≡◌, ◌↔◌, Bool, not, ℕ, ◌+◌, ◌≤◌, ◌<◌, T, length, Ok, Err}
 use Rattle.std.proofs.Math.Path.{refl, ap}
 use Rattle.std.proofs.Common.{sym, ◌∙◌, subst, true≢false, arith, eqb-true, eq-eqb, ne_eqb, le-ltb}
 use Rattle.std.proofs.Math.Bool.{true, false, cond}
@@ -7,8 +7,7 @@ use mathlib.Core.List.{List, [], ◌∷◌, ◌++◌}
 use Rattle.std.proofs.Math.Dec.{eqb}
 use Rattle.terms.specs.declared.Answer.{Answer}
 use Rattle.terms.specs.declared.Question.{Question}
-use Rattle.terms.specs.declared.Tested.{Tested}
-use Rattle.refusals.specs.Refusals.{order, rank, Test, test, tested}
+use Rattle.refusals.specs.Refusals.{order, rank, Test, Tested, test, tested}
 use Rattle.refusals.proofs.Joining.{tested_append}
 use Rattle.refusals.proofs.Ranks.{thirteen_after_twelve, rank_ordered, rank_number, rank_lower}
 use Rattle.terms.specs.Tests.{differ}
@@ -101,18 +100,18 @@ module _ (h : Held) (s : List ℕ) where
 
   -- the rows of the lists
   by_lists :
-      eqb (length s) 0 ≡ false → (t : Tested) → ((n : ℕ) → t ≡ Tested.Refused n → rank 3 < rank n) →
+      eqb (length s) 0 ≡ false → (t : Tested) → ((n : ℕ) → t ≡ Err n → rank 3 < rank n) →
       on_tested (obey h (command_of s) b used) (λ n. Refused n used) t ≡ outcome_by h s t
-  by_lists e Tested.Passed r = ap (λ v. cond v Ended (obey h (command_of s) b used)) (sym e)
-  by_lists e (Tested.Refused n) r = ap (Refused n) (sym (used_whole n (r n refl)))
+  by_lists e (Ok passed) r = ap (λ v. cond v Ended (obey h (command_of s) b used)) (sym e)
+  by_lists e (Err n) r = ap (Refused n) (sym (used_whole n (r n refl)))
 
   -- the rows of the body before them
   by_body :
       eqb (length s) 0 ≡ false → (t u : Tested) → u ≡ tested (held_tests h (command_of s) b) →
-      ((n : ℕ) → or_else t u ≡ Tested.Refused n → rank 3 < rank n) →
+      ((n : ℕ) → or_else t u ≡ Err n → rank 3 < rank n) →
       judged h (parsed_body (decoded_as t (command_of s)) b used) ≡ outcome_by h s (or_else t u)
-  by_body e Tested.Passed u f r = ap (λ (v : Tested). on_tested (obey h (command_of s) b used) (λ n. Refused n used) v) (sym f) ∙ by_lists e u r
-  by_body e (Tested.Refused n) u f r = ap (Refused n) (sym (used_whole n (r n refl)))
+  by_body e (Ok passed) u f r = ap (λ (v : Tested). on_tested (obey h (command_of s) b used) (λ n. Refused n used) v) (sym f) ∙ by_lists e u r
+  by_body e (Err n) u f r = ap (Refused n) (sym (used_whole n (r n refl)))
 
   abbrev rest : Tested
   rest = or_else (tested (body_tests h.settings k b)) (tested (held_tests h (command_of s) b))
@@ -120,7 +119,7 @@ module _ (h : Held) (s : List ℕ) where
   tested_rest : tested (record_tests h k b) ≡ rest
   tested_rest = tested_append (body_tests h.settings k b) (held_tests h (command_of s) b)
 
-  past_frame : (n : ℕ) → rest ≡ Tested.Refused n → rank 3 < rank n
+  past_frame : (n : ℕ) → rest ≡ Err n → rank 3 < rank n
   past_frame n e =
       let w = tested_in (rank 6) (rank 12) (record_rows h k b) (record_ascends h k b) n (sym (record_rows_lem h k b) ∙ (tested_rest ∙ e)) in
       omega (arith, w.0, three_six)
@@ -129,8 +128,8 @@ module _ (h : Held) (s : List ℕ) where
   by_frame :
       eqb (length s) 0 ≡ false → (t : Tested) →
       judged h (parsed_frame h.settings s (on_tested (Framed.Record k used) (λ n. Framed.Refused n (used_for n s)) t)) ≡ outcome_by h s (or_else t rest)
-  by_frame e Tested.Passed = by_body e (tested (body_tests h.settings k b)) (tested (held_tests h (command_of s) b)) refl past_frame
-  by_frame e (Tested.Refused n) = refl
+  by_frame e (Ok passed) = by_body e (tested (body_tests h.settings k b)) (tested (held_tests h (command_of s) b)) refl past_frame
+  by_frame e (Err n) = refl
 
   tested_record : tested (frame_tests s ++ record_tests h k b) ≡ or_else (tested (frame_tests s)) rest
   tested_record = tested_append (frame_tests s) (record_tests h k b) ∙ ap (or_else (tested (frame_tests s))) tested_rest
@@ -166,8 +165,8 @@ call_by_rows m s = go (short m) (not (good m.block))
     h = read_held m.block
 
     effect_by : (t : Tested) → effect h m (outcome_by h s t) ≡ by_rows m s t
-    effect_by Tested.Passed = refl
-    effect_by (Tested.Refused n) = refl
+    effect_by (Ok passed) = refl
+    effect_by (Err n) = refl
 
     go : (a b : Bool) →
         on_tested (effect h m (judged h (parse h.settings s))) (λ n. after (Answer.Refused n) 0 m) (tested (test a 1 ∷ test b 2 ∷ []))
@@ -225,12 +224,12 @@ ended_only (over l) e = l
 ended_only done e = differ (cc)
 ended_only {h} (reply q) e = reply_goes (answer h q) e
 
-refused_number : (m : Buffers) (s : List ℕ) (n : ℕ) (t : Tested) → (by_rows m s t).answer ≡ Answer.Refused n → t ≡ Tested.Refused n
-refused_number m s n Tested.Passed e = absurd (not_refused n (obeyed_accepts (read_held m.block) m s) e)
-refused_number m s n (Tested.Refused k) e = let f : k ≡ n = cc in ap Tested.Refused f
+refused_number : (m : Buffers) (s : List ℕ) (n : ℕ) (t : Tested) → (by_rows m s t).answer ≡ Answer.Refused n → t ≡ Err n
+refused_number m s n (Ok passed) e = absurd (not_refused n (obeyed_accepts (read_held m.block) m s) e)
+refused_number m s n (Err k) e = let f : k ≡ n = cc in ap Err f
 
 -- the call is refused with a number exactly if that is what its rows come to
-pub refused_exactly : (m : Buffers) (s : List ℕ) (n : ℕ) → ((call m s).answer ≡ Answer.Refused n) ↔ (tested (rows m s) ≡ Tested.Refused n)
+pub refused_exactly : (m : Buffers) (s : List ℕ) (n : ℕ) → ((call m s).answer ≡ Answer.Refused n) ↔ (tested (rows m s) ≡ Err n)
 refused_exactly m s n = (
   λ e. refused_number m s n (tested (rows m s)) (sym (ap (λ (x : After). x.answer) (call_by_rows m s)) ∙ e),
   λ e. ap (λ (x : After). x.answer) (call_by_rows m s) ∙ ap (λ (t : Tested). (by_rows m s t).answer) e,
@@ -269,8 +268,8 @@ applies_refused m s t i a = let (n, e) = tested_some (rows m s) t i a in (n, (re
 
 -- ---- number 2, and end
 
-lent_number : (p g : Bool) (ts : List Test) → ((n : ℕ) → tested ts ≡ Tested.Refused n → n ≡ 2 → ⊥) →
-    tested (test p 1 ∷ test (not g) 2 ∷ ts) ≡ Tested.Refused 2 → (p ≡ false) × (g ≡ false)
+lent_number : (p g : Bool) (ts : List Test) → ((n : ℕ) → tested ts ≡ Err n → n ≡ 2 → ⊥) →
+    tested (test p 1 ∷ test (not g) 2 ∷ ts) ≡ Err 2 → (p ≡ false) × (g ≡ false)
 lent_number true g ts f e = let z : ◌≡◌ {A = ℕ} 1 2 = same_number e in let w : ⊥ = omega arith in absurd w
 lent_number false true ts f e = absurd (f 2 e refl)
 lent_number false false ts f e = (refl, refl)
@@ -286,7 +285,7 @@ two_by_block m s = (
     h : Held
     h = read_held m.block
 
-    later : (n : ℕ) → tested (input_rows h s) ≡ Tested.Refused n → n ≡ 2 → ⊥
+    later : (n : ℕ) → tested (input_rows h s) ≡ Err n → n ≡ 2 → ⊥
     later n e d = let w = tested_in (rank 3) (rank 12) (input_rows h s) (input_ascends h s) n e in omega (arith, w.0, two_three, ap rank d)
 
 -- end is given exactly where nothing is left, enough is lent and the block is good
@@ -297,8 +296,8 @@ end_by_block m s = (λ e. there (short m) (good m.block) (sym (ap (λ (x : After
     h = read_held m.block
 
     passes : (t : Tested) → (by_rows m s t).answer ≡ Answer.End → length s ≡ 0
-    passes Tested.Passed e = ended_only (obeyed_accepts h m s) e
-    passes (Tested.Refused n) e = differ (cc)
+    passes (Ok passed) e = ended_only (obeyed_accepts h m s) e
+    passes (Err n) e = differ (cc)
 
     there : (p g : Bool) → (by_rows m s (tested (table p (not g) h s))).answer ≡ Answer.End → (length s ≡ 0) × (p ≡ false) × (g ≡ true)
     there true g e = differ (cc)
@@ -339,5 +338,5 @@ call_used m s = (
     nothing_used false d = absurd (true≢false (sym d))
 
     ended_used : (t : Tested) → (by_rows m s t).answer ≡ Answer.End → (by_rows m s t).used ≡ 0
-    ended_used Tested.Passed e = nothing_used (eqb (length s) 0) (eq-eqb (length s) 0 (ended_only (obeyed_accepts h m s) e))
-    ended_used (Tested.Refused n) e = differ (cc)
+    ended_used (Ok passed) e = nothing_used (eqb (length s) 0) (eq-eqb (length s) 0 (ended_only (obeyed_accepts h m s) e))
+    ended_used (Err n) e = differ (cc)

@@ -1,18 +1,16 @@
 -- The span call is the record SPANS without bytes: its answers, refusals and lent memory are those of the record call. Assumes nothing.
-use Rattle.std.specs.Prelude.{◌≡◌, refl, ◌↔◌, Bool, true, false, not, List, [], ◌∷◌, ℕ, T, length}
+use Rattle.std.specs.Prelude.{◌≡◌, refl, ◌↔◌, Bool, true, false, not, List, [], ◌∷◌, ℕ, T, length, Result, Ok, Err}
 use Rattle.std.proofs.Common.{sym, ap, ◌∙◌, subst, arith}
 use Rattle.codec.specs.Bytes.{bytes, little}
 use Rattle.terms.specs.declared.Answer.{Answer}
 use Rattle.terms.specs.declared.Question.{Question}
-use Rattle.terms.specs.declared.Tested.{Tested}
 use Rattle.terms.specs.Tests.{true_of}
 use Rattle.terms.specs.Held.{Held, is_question}
-use Rattle.refusals.specs.Refusals.{test, tested}
+use Rattle.refusals.specs.Refusals.{Tested, test, tested}
 use Rattle.refusals.proofs.Joining.{clash}
 use Rattle.terms.specs.Otherwise.{on_tested}
 use Rattle.block.specs.Block.{read_held, good}
-use Rattle.records.specs.declared.Command.TheVariants as Command
-use Rattle.records.specs.declared.Decoded.{Decoded}
+use Rattle.records.specs.declared.Command.{Command}
 use Rattle.records.specs.Parsed.{Parsed}
 use Rattle.frames.specs.Frames.{lengths_of}
 use Rattle.records.specs.Records.{body_tests, command_in, question_tests, decoded_as, parsed_body}
@@ -41,14 +39,14 @@ reply_unused h m u (Answered (Spans rs)) = refl
 asked_unused :
     (h : Held) (m : Buffers) (b : List ℕ) (u : ℕ) (q : Question) (t : Tested) →
     effect h m (judged h (parsed_body (decoded_as t (Command.Ask q)) [] 0)) ≡ unused (effect h m (judged h (parsed_body (decoded_as t (Command.Ask q)) b u)))
-asked_unused h m b u q Tested.Passed = reply_unused h m u (answer h q)
-asked_unused h m b u q (Tested.Refused n) = refl
+asked_unused h m b u q (Ok passed) = reply_unused h m u (answer h q)
+asked_unused h m b u q (Err n) = refl
 
 lent_unused :
     (m : Buffers) (x y : After) → x ≡ unused y → (t : Tested) →
     on_tested x (λ n. after (Answer.Refused n) 0 m) t ≡ unused (on_tested y (λ n. after (Answer.Refused n) 0 m) t)
-lent_unused m x y e Tested.Passed = e
-lent_unused m x y e (Tested.Refused n) = refl
+lent_unused m x y e (Ok passed) = e
+lent_unused m x y e (Err n) = refl
 
 -- so every theorem about the record call's refusals, lent memory and answers carries over
 pub span_as_record : (m : Buffers) (a A : ℕ) → span_call m a A ≡ unused (call m (spans_record a A))
@@ -70,7 +68,7 @@ span_as_record m a A =
     used : ℕ
     used = length (spans_record a A)
 
-    asked : Decoded
+    asked : Result Command ℕ
     asked = decoded_as (tested (question_tests h.settings q)) (Command.Ask q)
 
 -- so it keeps of lent memory what the record keeps
@@ -79,7 +77,7 @@ span_keeps m a A = subst (λ (r : After). Keeps r.answer m r.buffers) (sym (span
 
 -- ---- refusals 1, 2 and 6 and no other
 
-pub span_refused : (m : Buffers) (a A n : ℕ) → ((span_call m a A).answer ≡ Answer.Refused n) ↔ (tested (span_rows m a A) ≡ Tested.Refused n)
+pub span_refused : (m : Buffers) (a A n : ℕ) → ((span_call m a A).answer ≡ Answer.Refused n) ↔ (tested (span_rows m a A) ≡ Err n)
 unfolding span_call
 span_refused m a A n = go (short m) (good m.block) (is_question q)
   where
@@ -94,10 +92,10 @@ span_refused m a A n = go (short m) (good m.block) (is_question q)
         on_tested (effect h m (judged h (parsed_body (decoded_as (tested (test (not v) 6 ∷ [])) (Command.Ask q)) [] 0))) (λ n. after (Answer.Refused n) 0 m)
         (tested (test p 1 ∷ test (not g) 2 ∷ []))
 
-    same : {k : ℕ} → (◌≡◌ {A = Answer} (Answer.Refused k) (Answer.Refused n)) ↔ (Tested.Refused k ≡ Tested.Refused n)
-    same {k} = (λ e. let f : k ≡ n = cc in ap Tested.Refused f, λ e. ap Answer.Refused (same_number e))
+    same : {k : ℕ} → (◌≡◌ {A = Answer} (Answer.Refused k) (Answer.Refused n)) ↔ (◌≡◌ {A = Tested} (Err k) (Err n))
+    same {k} = (λ e. let f : k ≡ n = cc in ap Err f, λ e. ap Answer.Refused (same_number e))
 
-    go : (p g v : Bool) → ((said p g v).answer ≡ Answer.Refused n) ↔ (tested (test p 1 ∷ test (not g) 2 ∷ test (not v) 6 ∷ []) ≡ Tested.Refused n)
+    go : (p g v : Bool) → ((said p g v).answer ≡ Answer.Refused n) ↔ (tested (test p 1 ∷ test (not g) 2 ∷ test (not v) 6 ∷ []) ≡ Err n)
     go true g v = same
     go false false v = same
     go false true false = same

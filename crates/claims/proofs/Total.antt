@@ -1,8 +1,7 @@
 -- Demand 1, about the record call: a refusal changes nothing, and what each answer leaves. Assumes nothing.
-use Rattle.std.specs.Prelude.{◌≡◌, refl, List, ℕ, length}
+use Rattle.std.specs.Prelude.{◌≡◌, refl, List, ℕ, length, Ok, Err}
 use Rattle.terms.specs.declared.Answer.{Answer}
-use Rattle.terms.specs.declared.Tested.{Tested}
-use Rattle.refusals.specs.Refusals.{tested}
+use Rattle.refusals.specs.Refusals.{Tested, tested}
 use Rattle.terms.specs.Otherwise.{on_tested}
 use Rattle.terms.specs.Held.{Held}
 use Rattle.terms.specs.Tests.{differ}
@@ -48,8 +47,8 @@ call_keeps m s = go (tested (lent_tests m))
     go :
         (t : Tested) → let r = on_tested (effect h m (judged h (parse h.settings s))) (λ n. after (Answer.Refused n) 0 m) t in
         Keeps r.answer m r.buffers
-    go Tested.Passed = effect_keeps h m (judged h (parse h.settings s))
-    go (Tested.Refused k) = same_keeps (Answer.Refused k) m
+    go (Ok passed) = effect_keeps h m (judged h (parse h.settings s))
+    go (Err k) = same_keeps (Answer.Refused k) m
 
 -- 01, Where a record is turned away: refusals leave all lent memory unchanged
 pub refused_keeps : (m : Buffers) (s : List ℕ) (n : ℕ) → (call m s).answer ≡ Answer.Refused n → (call m s).buffers ≡ m

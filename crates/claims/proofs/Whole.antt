@@ -1,9 +1,8 @@
 -- The claims, with nothing in front of them. Assumes nothing.
-use Rattle.std.specs.Prelude.{◌≡◌, refl, ◌↔◌, Bool, true, false, cond, List, [], ◌++◌, ℕ, ◌≤◌, T, length, take}
+use Rattle.std.specs.Prelude.{◌≡◌, refl, ◌↔◌, Bool, true, false, cond, List, [], ◌++◌, ℕ, ◌≤◌, T, length, take, Ok}
 use Rattle.std.proofs.Common.{sym, ap, ◌∙◌, subst, true≢false, arith, length-append, take_at}
 use Rattle.terms.specs.declared.Answer.TheVariants as Answer
 use Rattle.terms.specs.Tests.{true_of, of_true, differ}
-use Rattle.terms.specs.declared.Tested.TheVariants as Tested
 use Rattle.refusals.specs.Refusals.{tested}
 use Rattle.terms.specs.Held.{Held, empty_held}
 use Rattle.places.specs.Layout.{zeros, SIZE, encode}
@@ -28,7 +27,7 @@ use Rattle.claims.proofs.Reach.{good_exactly}
 use Rattle.claims.proofs.Writing.{written}
 
 -- an accepted command keeps the limits
-accepted : (h : Held) (c : Command) (b : List ℕ) (u : ℕ) → Limited h → T (Proper c) → tested (held_tests h c b) ≡ Tested.Passed → StaysLimited (obey h c b u)
+accepted : (h : Held) (c : Command) (b : List ℕ) (u : ℕ) → Limited h → T (Proper c) → tested (held_tests h c b) ≡ Ok tt → StaysLimited (obey h c b u)
 accepted h Command.Reset b u w p e = empty_limited
 accepted h (Command.Add ρ) b u w p e = added_limited h ρ w p e
 accepted h (Command.Put m) b u w p e = put_limited h m w p e

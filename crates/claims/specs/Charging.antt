@@ -1,6 +1,5 @@
 -- 02, Slip 1: which charge it is, what it must answer, and what it keeps.
-use Rattle.std.specs.Prelude.{◌≡◌, false, List, ℕ, ◌≤◌, ℤ}
-use Rattle.terms.specs.declared.Tested.TheVariants as Tested
+use Rattle.std.specs.Prelude.{◌≡◌, false, List, ℕ, ◌≤◌, ℤ, Ok}
 use Rattle.terms.specs.Limits.{INTERVALS, LABEL_ENTRIES, LINK_ENTRIES}
 use Rattle.terms.specs.Held.{Held, hole_in}
 use Rattle.refusals.specs.Refusals.{tested}
@@ -17,7 +16,7 @@ use Rattle.claims.specs.Memory.{WrittenIn}
 pub record Charging (m : Tables) (a : ℕ) (ns : List ℕ) (h : Held) : Type 0 where
   pub block : Holding m.block h
   pub lent : charge_short m ns ≡ false
-  pub in_order : tested (line_tests a (lines_of ns)) ≡ Tested.Passed
+  pub in_order : tested (line_tests a (lines_of ns)) ≡ Ok tt
 
 -- 02, Slip 1: its answer, and both tables as after SPANS: each bit, by 01's numbering of the pieces, in a hole of its pieces alone, 193 at most
 pub record ExactCharge (h : Held) (a : ℕ) (ls : List PriceLine) (r : AfterCharge) : Type 0 where

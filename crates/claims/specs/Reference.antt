@@ -1,5 +1,5 @@
 -- 01's book, here the reference machine: it is fed the bytes left and four lengths, and nothing else.
-use Rattle.std.specs.Prelude.{◌≡◌, false, List, [], ◌∷◌, ◌++◌, ℕ, ◌+◌, ◌<◌, ℤ, length}
+use Rattle.std.specs.Prelude.{◌≡◌, false, List, [], ◌∷◌, ◌++◌, ℕ, ◌+◌, ◌<◌, ℤ, length, Ok, Err}
 use Rattle.terms.specs.declared.Answer.{Answer}
 use Rattle.terms.specs.declared.Counting.{Counting}
 use Rattle.terms.specs.declared.Hole.TheVariants.{Part}
@@ -7,10 +7,9 @@ use Rattle.terms.specs.declared.Mark.{Mark}
 use Rattle.terms.specs.declared.Profile.TheVariants.{On}
 use Rattle.terms.specs.declared.Question.{Question}
 use Rattle.terms.specs.declared.Rule.{Rule}
-use Rattle.terms.specs.declared.Tested.{Tested}
 use Rattle.terms.specs.Held.{Held, with_rules, with_marks, with_counting, with_hole, with_profile, empty_held}
 use Rattle.terms.specs.Lists.{strike}
-use Rattle.refusals.specs.Refusals.{tested}
+use Rattle.refusals.specs.Refusals.{Tested, tested}
 use Rattle.shift.specs.Shifted.{shifted}
 use Rattle.terms.specs.Same.{same_mark}
 use Rattle.terms.specs.Spans.{flat}
@@ -48,7 +47,7 @@ judgement h f = tested (table (is_short f.block f.labels f.links f.spans) false 
 
 -- 01, The book: any other call is accepted; here one with a record
 pub record Accepted (h : Held) (f : Fed) (x : Said) : Type 0 where
-  pub passes : judgement h f ≡ Tested.Passed
+  pub passes : judgement h f ≡ Ok tt
   pub left : 0 < length f.bytes
   pub says : said f.bytes ≡ x
 
@@ -59,9 +58,9 @@ record_used f = length_field f.bytes + 2
 -- 01, The book: its result of a call, and what it holds then
 pub data Book (h : Held) (f : Fed) : Result → Held → Type 0 where
   -- a call is refused with the lowest number that applies, by rank; refused calls change nothing
-  refused : {n : ℕ} → judgement h f ≡ Tested.Refused n → Book h f (plain (Answer.Refused n) (used_for n f.bytes)) h
+  refused : {n : ℕ} → judgement h f ≡ Err n → Book h f (plain (Answer.Refused n) (used_for n f.bytes)) h
   -- nor does end
-  ended : judgement h f ≡ Tested.Passed → length f.bytes ≡ 0 → Book h f (plain Answer.End 0) h
+  ended : judgement h f ≡ Ok tt → length f.bytes ≡ 0 → Book h f (plain Answer.End 0) h
   -- RESET empties both lists, goes back to the old counting, takes the hole away and switches the profile off
   emptied : Accepted h f Empties → Book h f (plain Answer.Done (record_used f)) empty_held
   -- kinds 2 to 5 add their rule at the end of its list, kinds 6, 7, 13 and 14 their mark

@@ -2,20 +2,18 @@
 use mathlib.Core.Path.{◌≡◌, refl, sym, ap, ◌∙◌, subst}
 use mathlib.Core.List.{List, [], ◌∷◌, ◌++◌, append_assoc}
 use Prim.Native.Nat.{ℕ, zero, suc, ◌+◌, ◌*◌, ◌/◌, ◌%◌, ◌^◌, ◌≤◌, ◌<◌}
-use native.Mathlib.Nat.{pow-suc, pow-succ', mul_assoc}
+use native.Mathlib.Nat.{pow-suc, pow-succ', mul_assoc, mul_comm, div-div-eq-div-mul}
 use native.Mathlib.Omega.{arith}
 use lib.ListN.{length, get_or, take, drop, length-append, length-drop, get_or-append, take-append-drop}
-use lib.Seq.{sets, sets-eq, length-take-le, get_or-append-add, take_at, drop-append-add, drop-drop, drop-cons}
+use lib.Seq.{length-take-le, get_or-append-add, take_at, drop-append-add, drop-drop, drop-cons}
+use Rattle.std.proofs.lemmas.List.{get_or-take, get_or-drop}
+use Rattle.std.specs.Int.{byte_at, byte_worth, bytes_low_first, sum_through}
+use borrow.Rule.Slice.PartMut.{put_mid}
 use lib.IntN.{ℤ}
 use mir.Syntax.{Width, w32, w64}
 use mir.Val.{SFits, bits, to_z, of_z}
 use mir.ValLaws.{of_z_fits, to_z-of_z, of_z-to_z}
 use Rattle.codec.specs.Bytes.{put, little, bytes, signed_at, bytes_of_signed, signed32_at, signed64_at, bytes_of_signed32, bytes_of_signed64}
-
--- stores one after the other lay the list
-pub sets_put : (vs l : List ℕ) (at : ℕ) → at + length vs ≤ length l → sets l at vs ≡ put l at vs
-unfolding put
-sets_put vs l at h = sets-eq vs l at h ∙ append_assoc (take at l) _ _
 
 -- what was laid reads back
 pub get_d_put : (l : List ℕ) (at : ℕ) (vs : List ℕ) (i : ℕ) → at ≤ length l → i < length vs → get_or (put l at vs) (at + i) 0 ≡ get_or vs i 0
@@ -167,3 +165,44 @@ signed64_put = signed_put w64 8 refl
 
 pub signed64_bytes : (l : List ℕ) (at : ℕ) → ((i : ℕ) → get_or l i 0 < 256) → bytes_of_signed64 (signed64_at l at) ≡ bytes 8 (little 8 l at)
 signed64_bytes = signed_bytes w64 8 refl
+
+-- ---- what the library reads and writes
+
+byte_is : (i n : ℕ) → byte_at i n ≡ n / 256 ^ i % 256
+byte_is zero n = let z : n / 1 ≡ n = omega arith in ap (λ (m : ℕ). m % 256) (sym z)
+byte_is (suc i) n = refl
+
+low_bytes : (k i n : ℕ) → bytes_low_first i k n ≡ bytes k (n / 256 ^ i)
+unfolding bytes
+low_bytes zero i n = refl
+low_bytes (suc k) i n =
+    let e : n / 256 ^ suc i ≡ n / 256 ^ i / 256 = ap (λ (m : ℕ). n / m) (pow-suc 256 i) ∙ sym (div-div-eq-div-mul n (256 ^ i) 256) in
+    (λ j. byte_is i n j ∷ (low_bytes k (suc i) n ∙ ap (bytes k) e) j)
+
+-- the bytes of a number
+pub bytes_written : (k n : ℕ) → bytes_low_first 0 k n ≡ bytes k n
+bytes_written k n = let z : n / 1 ≡ n = omega arith in low_bytes k 0 n ∙ ap (bytes k) z
+
+-- the number in so many bytes
+sum_little : (k : ℕ) (bs : List ℕ) → sum_through (λ i. byte_worth i (get_or bs i 0)) k ≡ little (suc k) bs 0
+unfolding little
+sum_little zero bs = omega arith
+sum_little (suc k) bs =
+    let e : suc k + 1 ≡ suc (suc k) = omega arith in
+    let f : 0 + suc k ≡ suc k = omega arith in
+    let g : little 1 bs (suc k) ≡ get_or bs (suc k) 0 = omega arith in
+    let h = rw (e, f) at (little_add (suc k) 1 bs 0) in
+    rw (sum_little k bs, mul_comm (get_or bs (suc k) 0) (256 ^ suc k), ← g) (sym h)
+
+-- the number in the k + 1 bytes from `at` on
+pub number_read : (k at : ℕ) (s : List ℕ) → sum_through (λ i. byte_worth i (get_or (take (suc k) (drop at s)) i 0)) k ≡ little (suc k) s at
+number_read k at s =
+    sum_little k (take (suc k) (drop at s))
+    ∙ little_same (suc k) (take (suc k) (drop at s)) s 0 at (λ (i : ℕ) (l : i < suc k).
+    let z : 0 + i ≡ i = omega arith in
+    rw (z, get_or-take (suc k) (drop at s) i 0 l, get_or-drop at s i 0))
+
+-- a part of a list that was written over
+pub part_put : (l vs : List ℕ) (at k : ℕ) → k ≡ length vs → put_mid at k l vs ≡ put l at vs
+unfolding put
+part_put l vs at k e = ap (λ (r : List ℕ). take at l ++ (vs ++ r)) (drop-drop k at l ∙ ap (λ (n : ℕ). drop (at + n) l) e)

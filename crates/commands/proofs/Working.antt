@@ -1,4 +1,5 @@
 -- What a command leaves is what it comes to. Assumes nothing.
+use Rattle.std.specs.Prelude.{Result, Ok, Err}
 use mathlib.Core.Path.{◌≡◌, refl, sym, ap, subst, ◌∙◌}
 use mathlib.Core.List.{List, ◌++◌}
 use Prim.Native.Nat.{ℕ}
@@ -6,12 +7,12 @@ use lib.IntN.{ℤ}
 use lib.ListN.{drop}
 use Rattle.terms.specs.declared.Answer.{Answer}
 use Rattle.terms.specs.declared.Question.{Question}
-use Rattle.terms.specs.declared.Tested.{Tested}
-use Rattle.refusals.specs.Refusals.{Test, tested}
+use Rattle.refusals.specs.Refusals.{Test, Tested, tested}
 use Rattle.terms.specs.Otherwise.{on_tested}
 use Rattle.terms.specs.Held.{Held}
-use Rattle.state.specs.declared.Change.{Change}
-use Rattle.state.specs.State.{held_of, ChangeAs}
+use Rattle.terms.specs.declared.Refusal.{Refusal}
+use Rattle.state.specs.declared.State.{State}
+use Rattle.state.specs.State.{ChangeAs}
 use Rattle.places.specs.Layout.{SIZE, encode}
 use Rattle.records.specs.declared.Command.{Command}
 use Rattle.records.specs.Parsed.{Parsed}
@@ -30,9 +31,9 @@ parts a u b t k s = λ i. after (a i) (u i) (lent (b i) (t i) (k i) (s i))
 
 -- a change, by which command it is
 pub as_changed :
-    (h : Held) (b : List ℕ) {l : Change} (c d : Command) → c ≡ d → ChangeAs (held_tests h d b) h (changed_by h d b) l →
-    ChangeAs (held_tests h c b) h (changed_by h c b) l
-as_changed h b {l} c d e f = subst (λ (y : Command). ChangeAs (held_tests h y b) h (changed_by h y b) l) (sym e) f
+    (h : Held) (b : List ℕ) {l : Result State Refusal} (c d : Command) → c ≡ d → ChangeAs (held_tests h d b) (changed_by h d b) l →
+    ChangeAs (held_tests h c b) (changed_by h c b) l
+as_changed h b {l} c d e f = subst (λ (y : Command). ChangeAs (held_tests h y b) (changed_by h y b) l) (sym e) f
 
 module _ (b t k : List ℕ) (s : List ℤ) where
   abbrev m : Buffers
@@ -40,19 +41,13 @@ module _ (b t k : List ℕ) (s : List ℤ) where
 
   -- a change, by what its tests came to
   pub changed :
-      (h then : Held) (tests : List Test) (u : ℕ) (l : Change) (b' : List ℕ) (r : Code.Reply) → ChangeAs tests h then l → KeptAs l u b b' r →
+      (h then : Held) (tests : List Test) (u : ℕ) (l : Result State Refusal) (b' : List ℕ) (r : Code.Reply) → ChangeAs tests then l → KeptAs l u b b' r →
       after_of r b' t k s ≡ effect h m (on_tested (Changed then u) (λ n. Refused n u) (tested tests))
-  changed h then tests u l b' r L K = go (tested tests) L.said L.held
-    where
-      go : (v : Tested) → l.tested ≡ v → held_of l.state ≡ on_tested then (λ n. h) v →
-          after_of r b' t k s ≡ effect h m (on_tested (Changed then u) (λ n. Refused n u) v)
-      go Tested.Passed e f =
-          let kept : List ℕ = encode (held_of l.state) ++ drop SIZE b in
-          parts (K.said ∙ ap (on_tested Answer.Done Answer.Refused) e) K.bytes
-          (K.block ∙ ap (on_tested kept (λ n. b)) e ∙ ap (λ (x : Held). encode x ++ drop SIZE b) f) refl refl refl
-      go (Tested.Refused n) e f =
-          let kept : List ℕ = encode (held_of l.state) ++ drop SIZE b in
-          parts (K.said ∙ ap (on_tested Answer.Done Answer.Refused) e) K.bytes (K.block ∙ ap (on_tested kept (λ n. b)) e) refl refl refl
+  changed h then tests u (Ok x) b' r L K =
+      parts K.said K.bytes (K.block ∙ ap (λ (x : Held). encode x ++ drop SIZE b) L.held) refl refl refl
+      ∙ ap (λ (v : Tested). effect h m (on_tested (Changed then u) (λ n. Refused n u) v)) L.said
+  changed h then tests u (Err e) b' r L K =
+      parts K.said K.bytes K.block refl refl refl ∙ ap (λ (v : Tested). effect h m (on_tested (Changed then u) (λ n. Refused n u) v)) L.said
 
   -- a question
   pub questioned :

@@ -1,12 +1,13 @@
 -- What the parts of the record call say.
-use Rattle.std.specs.Prelude.{◌≡◌, refl, Bool, false, ◌||◌, List, ◌++◌, ℕ, ◌≤◌, ltb, drop}
+use Rattle.std.specs.Prelude.{◌≡◌, refl, Bool, false, ◌||◌, List, ◌++◌, ℕ, ◌≤◌, ltb, drop, Result, Ok, Err}
 use Rattle.std.proofs.Common.{ltb-false}
 use Rattle.terms.specs.declared.Answer.{Answer}
 use Rattle.terms.specs.Tests.{neither}
 use Rattle.terms.specs.Limits.{LABEL_ENTRIES, LINK_ENTRIES, SPAN_NUMBERS}
 use Rattle.terms.specs.Held.{Held}
-use Rattle.terms.specs.Otherwise.{on_tested}
-use Rattle.state.specs.declared.Change.{Change}
+use Rattle.terms.specs.declared.Refusal.{Refusal}
+use Rattle.terms.specs.Otherwise.{on_tested, by_number, tested_of}
+use Rattle.state.specs.declared.State.{State}
 use Rattle.state.specs.State.{held_of}
 use Rattle.places.specs.Layout.{SIZE, encode}
 use Rattle.decide.specs.Decides.{Yes, No, Spans, Reply, Contradiction, Answered}
@@ -43,10 +44,15 @@ with_spans_lem {s = s} l = record { block = l.block; labels = l.labels; links = 
 pub enough : (b t k s : ℕ) → is_short b t k s ≡ false → Enough b t k s
 enough b t k s e = with_spans_lem (long (ltb s SPAN_NUMBERS) b t k e)
 
+-- the block after a change, which a refusal leaves
+abbrev pub kept_block : List ℕ → Result State Refusal → List ℕ
+kept_block old (Ok s) = encode (held_of s) ++ drop SIZE old
+kept_block old (Err r) = old
+
 -- a change's outcome, and the block then
-pub record KeptAs (l : Change) (used : ℕ) (old new : List ℕ) (r : Code.Reply) : Type 0 where
-  pub said : r.answer ≡ on_tested Answer.Done Answer.Refused l.tested
-  pub block : new ≡ on_tested (encode (held_of l.state) ++ drop SIZE old) (λ n. old) l.tested
+pub record KeptAs (l : Result State Refusal) (used : ℕ) (old new : List ℕ) (r : Code.Reply) : Type 0 where
+  pub said : r.answer ≡ on_tested Answer.Done Answer.Refused (tested_of (by_number l))
+  pub block : new ≡ kept_block old l
   pub bytes : r.used ≡ used
 
 -- a reply by its parts

@@ -1,8 +1,7 @@
 // The work of a command on what is held: refused, stored, or answered.
 #![tactic(auto)]
 
-ghost use Rattle.std.specs.Prelude.{◌≡◌, ◌≤◌, T, length};
-ghost use Rattle.terms.specs.declared.Answer.TheVariants as Answer;
+ghost use Rattle.std.specs.Prelude.{◌≡◌, ◌≤◌, T, length, IfOk};
 ghost use Rattle.state.specs.State.{held_of, CountsIn, ChangeAs};
 ghost use Rattle.places.specs.Layout.{SIZE};
 ghost use Rattle.records.specs.Parsed as Parsed;
@@ -13,8 +12,8 @@ ghost use Rattle.commands.specs.Buffers.{lent, after_of};
 ghost use Rattle.commands.specs.Code.{Enough, KeptAs};
 
 use records::Command;
-use state::{Change, State};
-use terms::{Answer, Tested};
+use state::State;
+use terms::{Answer, Refusal};
 
 // The answer and the bytes used.
 #[derive(Drop)]
@@ -23,51 +22,34 @@ pub struct Reply {
     pub used: usize,
 }
 
-pub fn refused(number: u8, used: usize) -> Reply
-    ensures { (result.answer ≡ Answer.Refused number) × (result.used ≡ used) }
-{
-    Reply {
-        answer: Answer::Refused(number),
-        used,
-    }
-}
-
-fn done(used: usize) -> Reply
-    ensures { (result.answer ≡ Answer.Done) × (result.used ≡ used) }
-{
-    Reply {
-        answer: Answer::Done,
-        used,
-    }
-}
-
 // A change: refused, or stored.
-fn keep(block: &mut [u8], change: Change, used: usize) -> Reply
-    requires { CountsIn change.state × (SIZE ≤ length block.old) }
+fn keep(block: &mut [u8], change: Result<State, Refusal>, used: usize) -> Reply
+    requires { IfOk change CountsIn × (SIZE ≤ length block.old) }
     ensures { KeptAs change used block.old block.new result }
 {
-    let tested = change.tested;
-    let state = change.state;
-    match tested {
-        Tested::Passed => {
+    match change {
+        Ok(state) => {
             block::store(block, state);
-            done(used)
+            Reply {
+                answer: Answer::Done,
+                used,
+            }
         }
-        Tested::Refused(number) => refused(number, used),
+        Err(refusal) => Reply {
+            answer: Answer::from(refusal),
+            used,
+        },
     }
 }
 
 // What a command, with its body beside it, makes of what is held. A question leaves it.
-fn changed(command: Command, body: &[u8], state: State) -> Change
+fn changed(command: Command, body: &[u8], state: State) -> Result<State, Refusal>
     requires { HeldState state × T (Proper command) }
-    ensures { ChangeAs (held_tests (held_of state) command body.now) (held_of state)
+    ensures { ChangeAs (held_tests (held_of state) command body.now)
         (changed_by (held_of state) command body.now) result }
 {
     match command {
-        Command::Reset => Change {
-            tested: Tested::Passed,
-            state: State::empty(),
-        },
+        Command::Reset => Ok(State::empty()),
         Command::Add(rule) => rules::with_rule(state, rule),
         Command::Put(mark) => marks::put(state, mark),
         Command::Take(mark) => marks::take(state, mark),
@@ -75,10 +57,7 @@ fn changed(command: Command, body: &[u8], state: State) -> Change
         Command::Confine(top, bottom) => settings::confine(state, top, bottom),
         Command::Shift(by) => correction::shift(state, by),
         Command::Restrict => settings::restrict(state),
-        Command::Ask(_) => Change {
-            tested: Tested::Passed,
-            state,
-        },
+        Command::Ask(_) => Ok(state),
     }
 }
 
@@ -100,7 +79,7 @@ pub fn work(
 {
     match command {
         Command::Ask(question) => {
-            let answer = questions::answer(state, labels, links, spans, question);
+            let answer = questions::answer(&state, labels, links, spans, question);
             Reply { answer, used }
         }
         _ => keep(block, changed(command, body, state), used),

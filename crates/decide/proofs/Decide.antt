@@ -29,7 +29,8 @@ use Rattle.line.proofs.IntervalLaws.{met}
 use Rattle.line.specs.Code.{cuts_inner}
 use Rattle.spans.specs.Runs.{runs}
 use Rattle.spans.proofs.Longest.{runs_longest}
-use Rattle.verdicts.specs.Reading.{Lookup, absent, first, lowest_of}
+use Rattle.verdicts.specs.Reading.{lowest_of}
+use Rattle.std.specs.Prelude.{Option, Some, None}
 use Rattle.verdicts.specs.Below.{one_below, below_one}
 use Rattle.tables.specs.Saturate.{fact, mem}
 use Rattle.tables.specs.Executed.{model}
@@ -54,9 +55,9 @@ use Rattle.decide.specs.Answer.{never_b, clashes, clash_or, verdict, answer}
 
 -- ---- the answer decides
 
-data Looked (f : ℕ → Bool) (n a : ℕ) : Lookup → Type 0 where
-  none_there : ((b : ℕ) → a ≤ b → b < a + n → f b ≡ false) → Looked f n a absent
-  first_there : (b : ℕ) → a ≤ b → b < a + n → f b ≡ true → ((c : ℕ) → a ≤ c → c < b → f c ≡ false) → Looked f n a (first b)
+data Looked (f : ℕ → Bool) (n a : ℕ) : Option ℕ → Type 0 where
+  none_there : ((b : ℕ) → a ≤ b → b < a + n → f b ≡ false) → Looked f n a None
+  first_there : (b : ℕ) → a ≤ b → b < a + n → f b ≡ true → ((c : ℕ) → a ≤ c → c < b → f c ≡ false) → Looked f n a (Some b)
 
 looked : (f : ℕ → Bool) (n a : ℕ) → Looked f n a (lowest_of f n a)
 looked f zero a = none_there (λ b h l. let z : ⊥ = omega arith in absurd z)
@@ -69,11 +70,11 @@ looked f (suc n) a = go (f a) refl (looked f n (suc a))
         pick (yes d) = rw d e
         pick (no d) = k c (omega arith) l
 
-    more : {r : Lookup} → f a ≡ false → Looked f n (suc a) r → Looked f (suc n) a r
+    more : {r : Option ℕ} → f a ≡ false → Looked f n (suc a) r → Looked f (suc n) a r
     more e (none_there k) = none_there (λ b h l. start e k b h (omega arith))
     more e (first_there b h l m k) = first_there b (omega arith) (omega arith) m (start e k)
 
-    go : (t : Bool) → f a ≡ t → Looked f n (suc a) (lowest_of f n (suc a)) → Looked f (suc n) a (elim t [ true ↦ first a | false ↦ lowest_of f n (suc a) ])
+    go : (t : Bool) → f a ≡ t → Looked f n (suc a) (lowest_of f n (suc a)) → Looked f (suc n) a (elim t [ true ↦ Some a | false ↦ lowest_of f n (suc a) ])
     go true e w = first_there a (omega arith) (omega arith) e (λ c h l. let z : ⊥ = omega arith in absurd z)
     go false e w = more e w
 
@@ -82,7 +83,7 @@ pub contradiction_item : (h : Held) (q : Question) (a : ℕ) → answer h q ≡ 
 unfolding answer
 contradiction_item h q a = go (looked (clashes h q (model h)) ITEMS 0)
   where
-    go : {l : Lookup} → Looked (clashes h q (model h)) ITEMS 0 l → clash_or l (verdict h (model h) q) ≡ Contradiction a → a < ITEMS
+    go : {l : Option ℕ} → Looked (clashes h q (model h)) ITEMS 0 l → clash_or l (verdict h (model h) q) ≡ Contradiction a → a < ITEMS
     go (none_there k) e = differ (cc)
     go (first_there b u l m k) e = let f : b ≡ a = cc in omega (arith, f)
 
@@ -160,7 +161,7 @@ module _ (h : Held) (R : InRange h) where
   unfolding answer
   answer_derives q = go (looked (clashes h q (model h)) ITEMS 0)
     where
-      go : {r : Lookup} → Looked (clashes h q (model h)) ITEMS 0 r → Derives h q (clash_or r (verdict h (model h) q))
+      go : {r : Option ℕ} → Looked (clashes h q (model h)) ITEMS 0 r → Derives h q (clash_or r (verdict h (model h) q))
       go (none_there k) =
           (λ n. no_clash q n.item n.depth (k n.item (omega arith) (omega (arith, n.named))) n.concerned n.has, reads q)
       go (first_there a u l e k) =

@@ -1,7 +1,7 @@
 -- 02, Slip 3, by the least model: after each interval of the walk over a label table that shows it, the buffer holds exactly the label's spans that ended
 -- before the interval, and is as lent behind them. Assumes nothing.
 use Rattle.std.proofs.Common.{sym, subst, eqb→eq}
-use Rattle.std.specs.Prelude.{◌↔◌, List, ℕ, suc, ◌+◌, ◌*◌, ◌≤◌, ◌<◌, T, eqb, ℤ, length, get_or, take, drop}
+use Rattle.std.specs.Prelude.{◌↔◌, List, ℕ, suc, ◌+◌, ◌*◌, ◌≤◌, ◌<◌, T, eqb, ℤ, length, get_or, drop}
 use Rattle.std.proofs.Math.Dec.{eqb_refl}
 use Rattle.terms.specs.declared.Atom.TheVariants.{Has}
 use Rattle.terms.specs.Limits.{ITEMS, LABELS, INTERVALS, CUTS, LABEL_ENTRIES, LINK_ENTRIES}
@@ -13,6 +13,8 @@ use Rattle.terms.specs.Spans.{Run, Longest}
 use Rattle.words.specs.Bit.{bit_at}
 use Rattle.logic.specs.Depths.{Derived}
 use Rattle.logic.proofs.Inside.{derived_inside}
+use Rattle.line.specs.declared.cut_list.Cuts.{Cuts}
+use Rattle.line.specs.CutList.{cut_list}
 use Rattle.line.specs.Pieces.{Pieces}
 use Rattle.line.proofs.Numbered.{pieces_one}
 use Rattle.line.specs.Intervals.{cuts_of, interval, count}
@@ -53,10 +55,10 @@ module _ (h : Held) (R : InRange h) (number : ℤ → ℕ) (size : ℕ) (P : Pie
       each_interval h R number size P (has_label labels a A) rs (by_bits labels (λ i o. S.label_bits a A i o item label)) lent now p g l w
 
   -- the table and the cuts that `tables::derive` promises, with which a question has the spans written
-  pub derived_each_interval : length (cuts_of h) ≤ CUTS → {was is links links' : List ℕ} {line cuts : List ℤ} {n : ℕ} →
-      TablesDerived h was links is links' line cuts n → (lent now : List ℤ) (p : ℕ) → p < size → {g : _} →
-      Walked (line_of (hole_in h)) (take n cuts) (has_label is a A) lent (suc p) g now → AfterInterval (hole_in h) number rs p lent now g.count
-  derived_each_interval few {was} {is} {links} {cuts = cuts} {n} D lent now p l {g} w =
+  pub derived_each_interval : length (cuts_of h) ≤ CUTS → {was is links links' : List ℕ} {cuts : Cuts} →
+      TablesDerived h was links is links' cuts → (lent now : List ℤ) (p : ℕ) → p < size → {g : _} →
+      Walked (line_of (hole_in h)) (cut_list cuts) (has_label is a A) lent (suc p) g now → AfterInterval (hole_in h) number rs p lent now g.count
+  derived_each_interval few {was} {is} {links} {cuts = cuts} D lent now p l {g} w =
       let same = (pieces_one (hole_in h) h.marks number (interval h) size (count h) P (pieces h R.hole)).0 in
       let S = table_exact h R few (drop LABEL_ENTRIES was) (drop LINK_ENTRIES links) in
       each_interval h R number size P (has_label is a A) rs
@@ -64,4 +66,4 @@ module _ (h : Held) (R : InRange h) (number : ℤ → ℕ) (size : ℕ) (P : Pie
       subst (λ q. Bit (get_or is (a * INTERVALS + q) 0) A ↔ Derived h (Has a A) i) (sym (same i o))
       (subst (λ t. Bit (get_or t (a * INTERVALS + interval h i) 0) A ↔ Derived h (Has a A) i) (sym D.tables.label_table_lem) (S.label_bits a A i o item label))))
       lent now p g l
-      (subst (λ cs. Walked (line_of (hole_in h)) cs (has_label is a A) lent (suc p) g now) D.cuts.list w)
+      (subst (λ cs. Walked (line_of (hole_in h)) cs (has_label is a A) lent (suc p) g now) D.cuts w)

@@ -25,10 +25,10 @@ use Rattle.tables.specs.Executed.{model}
 use Rattle.tables.specs.Tables.{label_entry, link_entry, label_table, link_table}
 use Rattle.tables.proofs.TableLaws.{bit_of, behind_absent, label_entry_lem, link_entry_lem, length_labels, length_links}
 use Rattle.spans.proofs.Longest.{runs_fit}
-use Rattle.spans.specs.Runs.{Begun, outside, since, stretch_of, runs_from, runs, has_label}
-use Rattle.verdicts.specs.Reading.{any_below, Lookup, absent, first, lowest_of, never_in, clash_of, clashes_in, holds_in}
+use Rattle.spans.specs.Runs.{stretch_of, runs_from, runs, has_label}
+use Rattle.verdicts.specs.Reading.{any_below, lowest_of, never_in, clashes_in, holds_in}
+use Rattle.std.specs.Prelude.{Option, Some, None}
 use Rattle.verdicts.specs.Below.{lowest_same}
-use Rattle.verdicts.specs.declared.Clash.TheVariants as Clash
 use Rattle.decide.specs.Verdicts.{table_verdict}
 use Rattle.decide.specs.Answer.{never_b, clashes, clash_or, verdict, answer}
 use Rattle.decide.specs.Decides.{Verdict, Yes, No, Spans, Reply, Contradiction, Answered}
@@ -90,38 +90,38 @@ module _ (h : Held) (R : InRange h) (few : length (cuts_of h) ≤ CUTS) where
       lowest_same ITEMS 0 (clashes_in (concerns_b h.marks q) (label_table h ++ t)) (clashes h q (model h))
       (λ a l. ap (λ b. concerns_b h.marks q a && b) (never_is t a (omega arith)))
 
-  runs_same : (e : Run) (cs : List ℤ) (f g : ℕ → Bool) (n p : ℕ) (b : Begun) → ((q : ℕ) → q < p + n → f q ≡ g q) →
+  runs_same : (e : Run) (cs : List ℤ) (f g : ℕ → Bool) (n p : ℕ) (b : Option ℕ) → ((q : ℕ) → q < p + n → f q ≡ g q) →
       runs_from e cs f n p b ≡ runs_from e cs g n p b
-  runs_same e cs f g zero p outside k = refl
-  runs_same e cs f g zero p (since s) k = refl
-  runs_same e cs f g (suc n) p outside k = go (f p) (g p) (k p (omega arith)) (λ c. runs_same e cs f g n (suc p) c (λ q l. k q (omega arith)))
+  runs_same e cs f g zero p None k = refl
+  runs_same e cs f g zero p (Some s) k = refl
+  runs_same e cs f g (suc n) p None k = go (f p) (g p) (k p (omega arith)) (λ c. runs_same e cs f g n (suc p) c (λ q l. k q (omega arith)))
     where
-      go : (s t : Bool) → s ≡ t → ((c : Begun) → runs_from e cs f n (suc p) c ≡ runs_from e cs g n (suc p) c)
-          → ◌≡◌ {A = List Run} (elim s [ true ↦ runs_from e cs f n (suc p) (since p) | false ↦ runs_from e cs f n (suc p) outside ])
-          (elim t [ true ↦ runs_from e cs g n (suc p) (since p) | false ↦ runs_from e cs g n (suc p) outside ])
-      go true true d k = k (since p)
+      go : (s t : Bool) → s ≡ t → ((c : Option ℕ) → runs_from e cs f n (suc p) c ≡ runs_from e cs g n (suc p) c)
+          → ◌≡◌ {A = List Run} (elim s [ true ↦ runs_from e cs f n (suc p) (Some p) | false ↦ runs_from e cs f n (suc p) None ])
+          (elim t [ true ↦ runs_from e cs g n (suc p) (Some p) | false ↦ runs_from e cs g n (suc p) None ])
+      go true true d k = k (Some p)
       go true false d k = true_false d
       go false true d k = true_false (sym d)
-      go false false d k = k outside
-  runs_same e cs f g (suc n) p (since s) k = go (f p) (g p) (k p (omega arith)) (λ c. runs_same e cs f g n (suc p) c (λ q l. k q (omega arith)))
+      go false false d k = k None
+  runs_same e cs f g (suc n) p (Some s) k = go (f p) (g p) (k p (omega arith)) (λ c. runs_same e cs f g n (suc p) c (λ q l. k q (omega arith)))
     where
-      go : (u t : Bool) → u ≡ t → ((c : Begun) → runs_from e cs f n (suc p) c ≡ runs_from e cs g n (suc p) c)
+      go : (u t : Bool) → u ≡ t → ((c : Option ℕ) → runs_from e cs f n (suc p) c ≡ runs_from e cs g n (suc p) c)
           → ◌≡◌ {A = List Run}
           (elim u [
-            | true ↦ runs_from e cs f n (suc p) (since s)
-            | false ↦ stretch_of e cs s (pred p) ∷ runs_from e cs f n (suc p) outside
+            | true ↦ runs_from e cs f n (suc p) (Some s)
+            | false ↦ stretch_of e cs s (pred p) ∷ runs_from e cs f n (suc p) None
           ])
-          (elim t [ true ↦ runs_from e cs g n (suc p) (since s) | false ↦ stretch_of e cs s (pred p) ∷ runs_from e cs g n (suc p) outside ])
-      go true true d k = k (since s)
+          (elim t [ true ↦ runs_from e cs g n (suc p) (Some s) | false ↦ stretch_of e cs s (pred p) ∷ runs_from e cs g n (suc p) None ])
+      go true true d k = k (Some s)
       go true false d k = true_false d
       go false true d k = true_false (sym d)
-      go false false d k = ap (λ rs. stretch_of e cs s (pred p) ∷ rs) (k outside)
+      go false false d k = ap (λ rs. stretch_of e cs s (pred p) ∷ rs) (k None)
 
   pub runs_is : (t : List ℕ) (a A : ℕ) → a < ITEMS → A < LABELS →
       runs (line_of (hole_in h)) (cuts_of h) (has_label (label_table h ++ t) a A) ≡ runs (line_of (hole_in h)) (cuts_of h) (λ p. mem (fact (Has a A) p) (model h))
   unfolding runs
   runs_is t a A l k =
-      runs_same (line_of (hole_in h)) (cuts_of h) (has_label (label_table h ++ t) a A) (λ p. mem (fact (Has a A) p) (model h)) (count h) 0 outside
+      runs_same (line_of (hole_in h)) (cuts_of h) (has_label (label_table h ++ t) a A) (λ p. mem (fact (Has a A) p) (model h)) (count h) 0 None
       (λ q b. label_bit t a A q l k (omega arith))
 
   -- ---- the answer, by the tables
@@ -139,13 +139,13 @@ module _ (h : Held) (R : InRange h) (few : length (cuts_of h) ≤ CUTS) where
   answer_is t u q s = sym (λ i. clash_or (clash_is q t i) (verdict_is t u q s i))
 
 -- what is read off the table says which reply
-pub clash_nowhere : (l : Lookup) (v : Verdict) → clash_of l ≡ Clash.Nowhere → clash_or l v ≡ Answered v
-clash_nowhere absent v e = refl
-clash_nowhere (first a) v e = differ (cc)
+pub clash_nowhere : (l : Option ℕ) (v : Verdict) → l ≡ None → clash_or l v ≡ Answered v
+clash_nowhere None v e = refl
+clash_nowhere (Some a) v e = differ (cc)
 
-pub clash_item : (l : Lookup) (v : Verdict) (a : ℕ) → clash_of l ≡ Clash.Item a → clash_or l v ≡ Contradiction a
-clash_item absent v a e = differ (cc)
-clash_item (first b) v a e = let f : b ≡ a = cc in ap Contradiction f
+pub clash_item : (l : Option ℕ) (v : Verdict) (a : ℕ) → l ≡ Some a → clash_or l v ≡ Contradiction a
+clash_item None v a e = differ (cc)
+clash_item (Some b) v a e = let f : b ≡ a = cc in ap Contradiction f
 
 -- 01, Records: a list of spans has at most 97 pairs
 pub spans_fit : (h : Held) → length (cuts_of h) ≤ CUTS → (q : Question) (rs : List Run) → answer h q ≡ Answered (Spans rs) → length rs ≤ 97
@@ -162,9 +162,9 @@ spans_fit h few q rs e = go (lowest_of (clashes h q (model h)) ITEMS 0) q e
     same : (xs : List Run) → length xs ≤ 97 → ◌≡◌ {A = Reply} (Answered (Spans xs)) (Answered (Spans rs)) → length rs ≤ 97
     same xs l d = let w : xs ≡ rs = cc in subst (λ (ys : List Run). length ys ≤ 97) w l
 
-    go : (r : Lookup) (p : Question) → clash_or r (verdict h (model h) p) ≡ Answered (Spans rs) → length rs ≤ 97
-    go (first a) p d = clash (cc)
-    go absent (Question.Holds x i) d = said (is_inside (hole_in h) i && mem (fact x (interval h i)) (model h)) d
-    go absent (Question.Spans a A) d =
+    go : (r : Option ℕ) (p : Question) → clash_or r (verdict h (model h) p) ≡ Answered (Spans rs) → length rs ≤ 97
+    go (Some a) p d = clash (cc)
+    go None (Question.Holds x i) d = said (is_inside (hole_in h) i && mem (fact x (interval h i)) (model h)) d
+    go None (Question.Spans a A) d =
         same (runs (line_of (hole_in h)) (cuts_of h) (λ p. mem (fact (Has a A) p) (model h)))
         (runs_fit (line_of (hole_in h)) (cuts_of h) (λ p. mem (fact (Has a A) p) (model h)) few).0 d

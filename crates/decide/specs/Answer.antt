@@ -9,7 +9,8 @@ use Rattle.terms.specs.HoleLaws.{line_of}
 use Rattle.logic.specs.Classes.{concerns_b}
 use Rattle.line.specs.Intervals.{cuts_of, interval, count}
 use Rattle.spans.specs.Runs.{runs}
-use Rattle.verdicts.specs.Reading.{any_below, Lookup, absent, first, lowest_of}
+use Rattle.verdicts.specs.Reading.{any_below, lowest_of}
+use Rattle.std.specs.Prelude.{Option, Some, None}
 use Rattle.tables.specs.Saturate.{Fact, fact, mem}
 use Rattle.tables.specs.Executed.{model}
 use Rattle.decide.specs.Decides.{Verdict, Yes, No, Spans, Reply, Contradiction, Answered}
@@ -22,9 +23,9 @@ never_b h fs a = any_below (count h) (λ p. mem (fact (Has a NEVER) p) fs)
 abbrev pub clashes : Held → Question → List Fact → ℕ → Bool
 clashes h q fs a = concerns_b h.marks q a && never_b h fs a
 
-abbrev pub clash_or : Lookup → Verdict → Reply
-clash_or absent v = Answered v
-clash_or (first a) v = Contradiction a
+abbrev pub clash_or : Option ℕ → Verdict → Reply
+clash_or None v = Answered v
+clash_or (Some a) v = Contradiction a
 
 abbrev pub verdict : Held → List Fact → Question → Verdict
 verdict h fs (Question.Holds x i) = cond (is_inside (hole_in h) i && mem (fact x (interval h i)) fs) Yes No

@@ -1,9 +1,8 @@
 -- How a frame is read: its tests, what they come to once the length field is in range, and a record that passes them. Assumes nothing.
-use Rattle.std.specs.Prelude.{◌≡◌, refl, Bool, true, false, not, cond, List, [], ◌∷◌, ℕ, ◌+◌, ◌-◌, ◌≤◌, T, eqb, ltb, length}
+use Rattle.std.specs.Prelude.{◌≡◌, refl, Bool, true, false, not, cond, List, [], ◌∷◌, ℕ, ◌+◌, ◌-◌, ◌≤◌, T, eqb, ltb, length, Ok}
 use Rattle.std.proofs.Common.{sym, ap, subst, arith, le-ltb, ltb-false, ne_eqb}
-use Rattle.terms.specs.declared.Tested.{Tested}
 use Rattle.terms.specs.Tests.{true_of}
-use Rattle.refusals.specs.Refusals.{Test, rank, test, tested}
+use Rattle.refusals.specs.Refusals.{Test, rank, Tested, test, tested}
 use Rattle.terms.specs.Otherwise.{on_tested}
 use Rattle.frames.specs.declared.Lengths.{Lengths}
 use Rattle.frames.specs.declared.Framed.{Framed}
@@ -102,7 +101,7 @@ pub framed_in : (s : List ℕ) (k u : ℕ) → framed s ≡ Framed.Record k u �
 framed_in s k u e = subst (FrameFacts s) e (frame_facts s)
 
 -- a length that is allowed passes
-pub known : (l : Lengths) (n : ℕ) → T (allows l n) → tested (kind_tests l n) ≡ Tested.Passed
+pub known : (l : Lengths) (n : ℕ) → T (allows l n) → tested (kind_tests l n) ≡ Ok tt
 known (Lengths.Exactly m) n t = ap (λ v. tested (test (not v) 5 ∷ [])) (true_of (allows (Lengths.Exactly m) n) t)
 known (Lengths.AtLeast m) n t = ap (λ v. tested (test (not v) 5 ∷ [])) (true_of (allows (Lengths.AtLeast m) n) t)
 known Lengths.Unknown n t = absurd t

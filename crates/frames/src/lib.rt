@@ -3,10 +3,11 @@
 
 ghost use Rattle.std.specs.Prelude.{◌≡◌};
 ghost use Rattle.refusals.specs.Refusals.{tested as testedBy};
+ghost use Rattle.terms.specs.Otherwise.{by_number};
 ghost use Rattle.frames.specs.Frames.{lengths_of};
 ghost use Rattle.frames.specs.Framing.{kind_tests, framed, framed_as};
 
-use terms::Tested;
+use terms::{Refusal, require};
 
 // The lengths that a kind's records may have; unknown for a kind that there is not.
 #[derive(Drop)]
@@ -16,7 +17,8 @@ pub enum Lengths {
     Unknown,
 }
 
-// The frame of what is left: nothing; a refusal's number and the bytes used; a kind and the bytes of its record.
+// The frame of what is left: nothing; a refusal's number and the bytes used; a kind and the bytes of its record. (Three outcomes, so no Result; the
+// number is what the reply gives.)
 #[derive(Drop)]
 pub enum Framed {
     Nothing,
@@ -56,24 +58,24 @@ fn lengths_of(kind: u16) -> Lengths
 
 impl Lengths {
     // A known kind, and a length that its records may have.
-    fn tested(self, length: usize) -> Tested
-        ensures { result ≡ testedBy (kind_tests self length) }
+    fn tested(self, length: usize) -> Result<(), Refusal>
+        ensures { by_number result ≡ testedBy (kind_tests self length) }
     {
         match self {
-            Lengths::Exactly(n) => Tested::unless(length == n, 5),
-            Lengths::AtLeast(n) => Tested::unless(n <= length, 5),
-            Lengths::Unknown => Tested::Refused(4),
+            Lengths::Exactly(n) => require(length == n, Refusal::BadLength),
+            Lengths::AtLeast(n) => require(n <= length, Refusal::BadLength),
+            Lengths::Unknown => Err(Refusal::UnknownKind),
         }
     }
 }
 
 // The record of a kind where no test applies.
-fn framed_by(tested: Tested, kind: u16, used: usize) -> Framed
-    ensures { result ≡ framed_as tested kind used }
+fn framed_by(tested: Result<(), Refusal>, kind: u16, used: usize) -> Framed
+    ensures { result ≡ framed_as (by_number tested) kind used }
 {
     match tested {
-        Tested::Passed => Framed::Record(kind, used),
-        Tested::Refused(number) => Framed::Refused(number, used),
+        Ok(()) => Framed::Record(kind, used),
+        Err(refusal) => Framed::Refused(refusal.number(), used),
     }
 }
 
@@ -85,14 +87,14 @@ pub fn frame(input: &[u8]) -> Framed
         return Framed::Nothing;
     }
     if input.len() < 4 {
-        return Framed::Refused(3, input.len());
+        return Framed::Refused(Refusal::BadFrame.number(), input.len());
     }
     let length = codec::u16_at(input, 0) as usize;
     if length < 2 {
-        return Framed::Refused(3, input.len());
+        return Framed::Refused(Refusal::BadFrame.number(), input.len());
     }
     if input.len() - 2 < length {
-        return Framed::Refused(3, input.len());
+        return Framed::Refused(Refusal::BadFrame.number(), input.len());
     }
     let kind = codec::u16_at(input, 2);
     let tested = lengths_of(kind).tested(length);

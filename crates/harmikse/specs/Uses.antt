@@ -1,15 +1,13 @@
 -- A record uses a byte at least, and no more than are left. Assumes nothing.
-use Rattle.std.specs.Prelude.{◌≡◌, refl, Bool, true, false, not, cond, List, ℕ, ◌+◌, ◌-◌, ◌≤◌, ◌<◌, eqb, ltb, length}
+use Rattle.std.specs.Prelude.{◌≡◌, refl, Bool, true, false, not, cond, List, ℕ, ◌+◌, ◌-◌, ◌≤◌, ◌<◌, eqb, ltb, length, Result, Ok, Err}
 use Rattle.std.proofs.Common.{arith, ltb-false}
 use Rattle.std.proofs.lemmas.Bool.{eqb-false}
 use Rattle.terms.specs.declared.Answer.TheVariants as Answer
 use Rattle.terms.specs.declared.Settings.{Settings}
-use Rattle.terms.specs.declared.Tested.{Tested}
-use Rattle.refusals.specs.Refusals.{rank, tested}
+use Rattle.refusals.specs.Refusals.{rank, Tested, tested}
 use Rattle.terms.specs.Otherwise.{on_tested}
 use Rattle.terms.specs.Held.{Held}
 use Rattle.records.specs.declared.Command.{Command}
-use Rattle.records.specs.declared.Decoded.{Decoded}
 use Rattle.frames.specs.declared.Lengths.{Lengths}
 use Rattle.frames.specs.declared.Framed.{Framed}
 use Rattle.records.specs.Parsed.{Parsed}
@@ -63,9 +61,9 @@ ParsedUses s Parsed.Nothing = Unit {0}
 ParsedUses s (Parsed.Refused n u) = Within s u
 ParsedUses s (Parsed.Record c b u) = Within s u
 
-body_uses : (s : List ℕ) (d : Decoded) (b : List ℕ) (u : ℕ) → Within s u → ParsedUses s (parsed_body d b u)
-body_uses s (Decoded.Command c) b u w = w
-body_uses s (Decoded.Refused n) b u w = w
+body_uses : (s : List ℕ) (d : Result Command ℕ) (b : List ℕ) (u : ℕ) → Within s u → ParsedUses s (parsed_body d b u)
+body_uses s (Ok c) b u w = w
+body_uses s (Err n) b u w = w
 
 parsed_uses : (σ : Settings) (s : List ℕ) (f : Framed) → FrameUses s f → ParsedUses s (parsed_frame σ s f)
 parsed_uses σ s Framed.Nothing w = tt
@@ -95,8 +93,8 @@ judged_uses h s (Parsed.Refused n u) w = w
 judged_uses h s (Parsed.Record c b u) w = go (tested (held_tests h c b))
   where
     go : (t : Tested) → OutcomeUses s (on_tested (obey h c b u) (λ n. Refused n u) t)
-    go Tested.Passed = obeyed_uses h s b c u w
-    go (Tested.Refused n) = w
+    go (Ok passed) = obeyed_uses h s b c u w
+    go (Err n) = w
 
 replied_uses : (h : Held) (m : Buffers) (s : List ℕ) (u : ℕ) (r : Reply) → Within s u → Within s (replied h m u r).used
 replied_uses h m s u (Contradiction a) w = w

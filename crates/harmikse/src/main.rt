@@ -16,11 +16,9 @@ const LIMIT: usize = 65_536;
 fn main(rt: HostRuntime) {
     // The one byte more than the limit shows that there is more.
     let mut input = [0u8; 65537];
-    let read = listing::read_input(&rt, &mut input, b"harmikse: standard input");
-    if read.failed {
+    let Ok(count) = listing::read_input(&rt, &mut input, b"harmikse: standard input") else {
         return;
-    }
-    let count = read.count;
+    };
     if LIMIT < count {
         print_line(&rt, b"input too long\n", 15, &input[..count], 1);
         return;
@@ -105,28 +103,16 @@ fn step(
 fn is_end(answer: Answer) -> bool
     ensures { result ≡ is_end answer }
 {
-    match answer {
-        Answer::Done => false,
-        Answer::Yes => false,
-        Answer::No => false,
-        Answer::Contradiction(_) => false,
-        Answer::Spans(_) => false,
-        Answer::End => true,
-        Answer::Refused(_) => false,
-    }
+    matches!(answer, Answer::End)
 }
 
 fn goes_on(answer: Answer) -> bool
     ensures { result ≡ goes_on answer }
 {
     match answer {
-        Answer::Done => true,
-        Answer::Yes => true,
-        Answer::No => true,
-        Answer::Contradiction(_) => true,
-        Answer::Spans(_) => true,
         Answer::End => false,
         Answer::Refused(number) => number != 3,
+        _ => true,
     }
 }
 
@@ -156,5 +142,5 @@ fn print_line(
 ) -> bool
     requires { (count ≤ length line.now) × Prints input.now number (take count line.now) }
 {
-    listing::print_first(rt, line, count, b"harmikse: standard output")
+    listing::print(rt, &line[..count], b"harmikse: standard output")
 }

@@ -1,5 +1,5 @@
 -- What the numbers of the items' classes say, and which items a question concerns.
-use Rattle.std.specs.Prelude.{◌≡◌, Bool, false, cond, ◌||◌, List, ℕ, ◌<◌, ◌≤◌, eqb, length, get_or}
+use Rattle.std.specs.Prelude.{◌≡◌, Bool, false, cond, ◌||◌, List, ℕ, ◌<◌, eqb, length, get_or}
 use Rattle.terms.specs.declared.Atom.{Atom}
 use Rattle.terms.specs.declared.Mark.{Mark}
 use Rattle.terms.specs.declared.Question.{Question}
@@ -22,12 +22,6 @@ same_class cl a b = eqb (class_of cl a) (class_of cl b)
 -- a class's number when `from` has gone into `into`
 abbrev pub renamed_to : ℕ → ℕ → ℕ → ℕ
 renamed_to from into class = cond (eqb class from) into class
-
--- it has, for the first i items, and the others are as they were
-pub record Merged (from into i : ℕ) (cl r : List ℕ) : Type 0 where
-  pub size : length r ≡ ITEMS
-  pub each : (a : ℕ) → a < i → class_of r a ≡ renamed_to from into (class_of cl a)
-  pub rest : (a : ℕ) → i ≤ a → class_of r a ≡ class_of cl a
 
 -- the classes with a statement more
 pub record WithStatement (cl : List ℕ) (x : Atom) (r : List ℕ) : Type 0 where

@@ -1,17 +1,21 @@
 -- Searches in a list, from some place on. Assumes nothing.
 use mathlib.Core.Path.{◌≡◌, refl, sym, ap, ◌∙◌}
+use Rattle.std.proofs.Common.{Some, None, position}
+use Rattle.std.proofs.Math.Facts.{eqb_yes, yes_eqb}
+use Rattle.std.specs.List.{list_any, list_all, position_or_len}
 use mathlib.Core.Bool.{Bool, true, false, not, cond, ◌&&◌, ◌||◌}
 use mathlib.Core.List.{List, [], ◌∷◌, ◌++◌, map, append_assoc}
 use Prim.Native.Nat.{ℕ, zero, suc, ◌+◌, ◌-◌, ◌≤◌, ◌<◌}
 use native.Mathlib.Omega.{arith}
 use native.Mathlib.Numerals.{add-one}
-use borrow.Author.Tests.{lt-ltb, le-ltb, ne_eqb}
-use lib.Dec.{eqb, ltb, lt→ltb, ltb→lt, leb-suc-suc, eqb-suc-suc}
+use borrow.Author.Tests.{lt-ltb, ne_eqb}
+use lib.Dec.{eqb, ltb, leb-suc-suc, eqb-suc-suc}
 use lib.ListN.{length, get_or, take, drop, set, length-take, length-drop, length-map}
 use lib.Seq.{drop-cons, drop-length, take-suc, take-suc-set}
+use Rattle.std.proofs.lemmas.List.{take_all}
 use Rattle.terms.specs.Tests.{and_true, and_assoc, same_test}
 use Rattle.terms.specs.Lists.{some, every, strike, once}
-use Rattle.keys.specs.Search.{index_of, distinct}
+use Rattle.keys.specs.Search.{index_of, position_of, distinct}
 
 -- an array of structs is owned as the list of its elements' values
 pub length_of_map : (A B : Type 0) (f : A → B) (l : List A) (n : ℕ) → length (map f l) ≡ n → length l ≡ n
@@ -31,29 +35,9 @@ or_true : (b : Bool) → b || true ≡ true
 or_true true = refl
 or_true false = refl
 
-ltb_add : (a p n : ℕ) → a ≤ n → ltb (a + p) n ≡ ltb p (n - a)
-ltb_add a p n h =
-    same_test (ltb (a + p) n) (ltb p (n - a))
-    (λ t. lt→ltb p (n - a) (omega (arith, ltb→lt (a + p) n t)))
-    (λ t. lt→ltb (a + p) n (omega (arith, ltb→lt p (n - a) t)))
-
 module _ {X : Type 0} (f : X → Bool) where
-  -- a search stops where the element passes
-  pub index_hit : (xs : List X) (i : ℕ) (d : X) → i < length xs → f (get_or xs i d) ≡ true → i + index_of f (drop i xs) ≡ i
-  unfolding index_of
-  index_hit xs i d h e = rw (drop-cons xs i d h, e) (omega arith)
-
-  -- and goes on where it does not
-  pub index_miss : (xs : List X) (i : ℕ) (d : X) → i < length xs → f (get_or xs i d) ≡ false → i + index_of f (drop i xs) ≡ (i + 1) + index_of f (drop (i + 1) xs)
-  unfolding index_of
-  index_miss xs i d h e = rw (drop-cons xs i d h, e, add-one i) (omega arith)
-
-  pub index_end : (xs : List X) → length xs + index_of f (drop (length xs) xs) ≡ length xs
-  unfolding index_of
-  index_end xs = rw (drop-length xs) (omega arith)
-
   -- some element passes where the search stops before the end
-  some_place : (xs : List X) → some f xs ≡ ltb (index_of f xs) (length xs)
+  pub some_place : (xs : List X) → some f xs ≡ ltb (index_of f xs) (length xs)
   unfolding some index_of
   some_place [] = refl
   some_place (x ∷ xs) = go (f x) (some_place xs)
@@ -74,10 +58,6 @@ module _ {X : Type 0} (f : X → Bool) where
   some_at d (x ∷ xs) zero h e = rw e
   some_at d (x ∷ xs) (suc j) h e = rw (some_at d xs j (omega arith) e) (or_true (f x))
 
-  pub some_behind : (xs : List X) (i : ℕ) → i ≤ length xs → ltb (i + index_of f (drop i xs)) (length xs) ≡ some f (drop i xs)
-  some_behind xs i h =
-      ltb_add i (index_of f (drop i xs)) (length xs) h ∙ ap (λ (n : ℕ). ltb (index_of f (drop i xs)) n) (sym (length-drop i xs)) ∙ sym (some_place (drop i xs))
-
   -- without the first that passes: what stands before it, and what stands behind it
   strike_place : (xs : List X) → strike f xs ≡ take (index_of f xs) xs ++ drop (suc (index_of f xs)) xs
   unfolding strike index_of
@@ -92,13 +72,56 @@ module _ {X : Type 0} (f : X → Bool) where
   pub strike_at : (xs : List X) (p : ℕ) → p ≡ index_of f xs → take p xs ++ drop (p + 1) xs ≡ strike f xs
   strike_at xs p e = rw (add-one p, e) (sym (strike_place xs))
 
-  -- the same by numbers in hand
-  module _ (xs : List X) (n p : ℕ) (size : length xs ≡ n) (at : p ≡ index_of f xs) where
-    pub found : p < n → some f xs ≡ true
-    found h = some_place xs ∙ lt-ltb (index_of f xs) (length xs) (omega arith)
+  -- what the library's searches say
+  pub some_list : (xs : List X) → list_any f xs ≡ some f xs
+  unfolding some
+  some_list [] = refl
+  some_list (x ∷ xs) = ap (λ (b : Bool). f x || b) (some_list xs)
 
-    pub missing : n ≤ p → some f xs ≡ false
-    missing h = some_place xs ∙ le-ltb (index_of f xs) (length xs) (omega arith)
+  pub every_list : (xs : List X) → list_all f xs ≡ every f xs
+  unfolding every
+  every_list [] = refl
+  every_list (x ∷ xs) = ap (λ (b : Bool). f x && b) (every_list xs)
+
+  index_list : (xs : List X) → position_or_len f xs ≡ index_of f xs
+  unfolding index_of
+  index_list [] = refl
+  index_list (x ∷ xs) = go (f x) (index_list xs)
+    where
+      go : (t : Bool) → position_or_len f xs ≡ index_of f xs → cond (not t) (1 + position_or_len f xs) 0 ≡ cond t 0 (suc (index_of f xs))
+      go true e = refl
+      go false e = omega arith
+
+  pub position_list : (xs : List X) → position f xs ≡ position_of f xs
+  position_list xs = rw (index_list xs, some_place xs)
+
+  -- a place that was found, and none
+  pub found : (xs : List X) (p : ℕ) → position_of f xs ≡ Some p → (some f xs ≡ true) × (p ≡ index_of f xs)
+  found xs p = go (some f xs)
+    where
+      go : (t : Bool) → cond t (Some (index_of f xs)) None ≡ Some p → (t ≡ true) × (p ≡ index_of f xs)
+      go true e = (refl, (cc))
+      go false e = cc
+
+  pub missing : (xs : List X) → position_of f xs ≡ None → some f xs ≡ false
+  missing xs = go (some f xs)
+    where
+      go : (t : Bool) → cond t (Some (index_of f xs)) None ≡ None → t ≡ false
+      go true e = cc
+      go false e = refl
+
+eqb_swap : (a b : ℕ) → eqb a b ≡ eqb b a
+eqb_swap a b = same_test (eqb a b) (eqb b a) (λ t. yes_eqb (sym (eqb_yes t))) (λ t. yes_eqb (sym (eqb_yes t)))
+
+-- a search for a number, by either side of the comparison
+pub some_any : (k : ℕ) (ks : List ℕ) → list_any (λ x. eqb x k) ks ≡ some (eqb k) ks
+unfolding some
+some_any k [] = refl
+some_any k (x ∷ xs) = (λ i. eqb_swap x k i || some_any k xs i)
+
+-- and in what is behind a place
+pub some_behind : (k from : ℕ) (ks : List ℕ) → list_any (λ x. eqb x k) (take (length ks - from) (drop from ks)) ≡ some (eqb k) (drop from ks)
+some_behind k from ks = rw (take_all (length ks - from) (drop from ks) (omega (arith, length-drop from ks))) (some_any k (drop from ks))
 
 -- one step of the count of distinct numbers
 pub distinct_step : (ks : List ℕ) (i : ℕ) → i < length ks →

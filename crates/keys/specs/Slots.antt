@@ -1,5 +1,5 @@
 -- Slots for keys: from the slot of a key one sees mostly at once whether it was met. Assumes nothing.
-use Rattle.std.specs.Prelude.{◌≡◌, false, cond, List, ℕ, ◌+◌, ◌%◌, ◌≤◌, ◌<◌, eqb, length, get_or, drop}
+use Rattle.std.specs.Prelude.{◌≡◌, Bool, false, not, List, ℕ, ◌+◌, ◌%◌, ◌≤◌, ◌<◌, eqb, length, get_or, drop}
 use Rattle.terms.specs.Lists.{some}
 
 -- how many slots there are for keys, and the slot of a key
@@ -26,6 +26,6 @@ pub record Slots (keys : List ℕ) (from : ℕ) (slots : List ℕ) : Type 0 wher
   pub places : (s : ℕ) → 0 < get_or slots s 0 → (from ≤ get_or slots s 0) × (get_or slots s 0 < length keys)
 
 -- whether the key at the place is the last of its kind, and the slots with it
-pub record LastOf (keys : List ℕ) (at : ℕ) (slots : List ℕ) (r : ℕ) : Type 0 where
-  pub count : r ≡ cond (some (eqb (get_or keys at 0)) (drop (at + 1) keys)) 0 1
+pub record LastOf (keys : List ℕ) (at : ℕ) (slots : List ℕ) (r : Bool) : Type 0 where
+  pub last : r ≡ not (some (eqb (get_or keys at 0)) (drop (at + 1) keys))
   pub known : Slots keys at slots

@@ -1,45 +1,18 @@
-// Keys, one number for each thing: where one stands, and how many are distinct.
+// Keys, one number for each thing: how many are distinct.
 #![tactic(auto)]
 
 ghost use Rattle.std.specs.Prelude.{◌≡◌, ◌+◌, ◌≤◌, ◌<◌, eqb, length, drop};
 ghost use Rattle.terms.specs.Lists.{some, once};
-ghost use Rattle.keys.specs.Search.{index_of, distinct};
-ghost use Rattle.keys.specs.Slots.{slot_of, FreeSlots, Said, Slots, LastOf};
+ghost use Rattle.keys.specs.Search.{distinct};
+ghost use Rattle.keys.specs.Slots.{slot_of, Said, Slots, LastOf};
 
 // How many slots the search for equal keys has: a prime, so that each bit of a key tells.
 const SLOTS: usize = 3967;
-
-// The first place of the key from `from` on, the number of the keys where it is at none.
-pub fn first(keys: &[u64], from: usize, key: u64) -> usize
-    requires { from ≤ length keys.now }
-    ensures { result ≡ from + index_of (eqb key) (drop from keys.now) }
-{
-    for i in from..keys.len() {
-        if key == keys[i] {
-            return i;
-        }
-    }
-    keys.len()
-}
-
-// The key is at some place from `from` on.
-pub fn is_behind(keys: &[u64], from: usize, key: u64) -> bool
-    requires { from ≤ length keys.now }
-    ensures { result ≡ some (eqb key) (drop from keys.now) }
-{
-    first(keys, from, key) < keys.len()
-}
 
 fn slot_of(key: u64) -> usize
     ensures { result ≡ slot_of key }
 {
     key as usize % SLOTS
-}
-
-fn free_slots() -> [u16; SLOTS]
-    ensures { FreeSlots result }
-{
-    [0u16; SLOTS]
 }
 
 // The key is at some place from `from` on. Its slot mostly tells; where that says the place of another key they are searched.
@@ -48,17 +21,11 @@ fn is_met(keys: &[u64], said: usize, from: usize, key: u64) -> bool
     requires from_in_bounds { from ≤ length keys.now }
     ensures { result ≡ some (eqb key) (drop from keys.now) }
 {
-    if said == 0 {
-        return false;
-    }
-    if key == keys[said] {
-        return true;
-    }
-    is_behind(keys, from, key)
+    said != 0 && (keys[said] == key || keys[from..].contains(&key))
 }
 
-// 1 where no key behind the place is the same as its own, else 0. Its slot says the place then.
-fn last_of(keys: &[u64], slots: &mut [u16; SLOTS], at: usize) -> usize
+// No key behind the place is the same as its own. Its slot says the place then.
+fn is_last(keys: &[u64], slots: &mut [u16; SLOTS], at: usize) -> bool
     requires slots { Slots keys.now (at + 1) slots.old }
     requires at_in_bounds { at < length keys.now }
     requires keys_len_bound { length keys.now ≤ 512 }
@@ -66,12 +33,9 @@ fn last_of(keys: &[u64], slots: &mut [u16; SLOTS], at: usize) -> usize
 {
     let key = keys[at];
     let slot = slot_of(key);
-    let said = slots[slot] as usize;
+    let said = usize::from(slots[slot]);
     slots[slot] = at as u16;
-    if is_met(keys, said, at + 1, key) {
-        return 0;
-    }
-    1
+    !is_met(keys, said, at + 1, key)
 }
 
 // From the last key on, so that the slots say places behind the one in hand: never 0, which is a free slot.
@@ -79,12 +43,10 @@ pub fn distinct_keys(keys: &[u64]) -> usize
     requires { length keys.now ≤ 512 }
     ensures { result ≡ distinct keys.now }
 {
-    let mut slots = free_slots();
-    let mut count: usize = 0;
-    let mut i = keys.len();
-    while 0 < i {
-        i -= 1;
-        count += last_of(keys, &mut slots, i);
+    let mut slots = [0; SLOTS];
+    let mut count = 0;
+    for at in (0..keys.len()).rev() {
+        count += usize::from(is_last(keys, &mut slots, at));
     }
     count
 }

@@ -3,3 +3,4 @@ pub mod Cuts
 pub mod CutLaws
 pub mod Intervals
 pub mod Code
+pub mod CutList

@@ -1,12 +1,12 @@
 -- The laws of `Laid`: one text behind the other is both at once. Assumes nothing.
 use mathlib.Core.Path.{◌≡◌, sym, ap, ◌∙◌, subst}
-use mathlib.Core.List.{List, [], ◌∷◌, ◌++◌}
-use Prim.Native.Nat.{ℕ, suc, ◌+◌, ◌≤◌, ◌<◌}
-use native.Mathlib.Numerals.{add-one}
+use mathlib.Core.List.{List, [], ◌++◌}
+use Prim.Native.Nat.{ℕ, ◌+◌, ◌≤◌}
 use native.Mathlib.Omega.{arith}
 use lib.IntN.{ℤ}
-use lib.ListN.{length, get_or, take, drop, set, length-append}
-use lib.Seq.{set_split, take-suc, take_at, take_all}
+use lib.ListN.{length, take, drop, length-append}
+use lib.Seq.{take_at, drop-drop}
+use borrow.Rule.Slice.PartMut.{put_mid}
 use Rattle.codec.specs.Bytes.{put}
 use Rattle.codec.proofs.Laws.{put_nil, put_put}
 use Rattle.lines.specs.Lines.{end_text, Laid}
@@ -40,24 +40,10 @@ laid_inside {t} {before = b} {next = n} l =
 pub laid_none : (before : List ℕ) (at next : ℕ) → next ≡ at → Laid [] before at before next
 laid_none b at next e = record { place = omega arith; bytes = sym (put_nil b at) }
 
--- a byte stored is one laid
-set_put : (l : List ℕ) (i x : ℕ) → i < length l → set l i x ≡ put l i (x ∷ [])
+-- what is written over a part of a buffer is laid there
+pub mid_put : (b t u : List ℕ) (at k : ℕ) → u ≡ t → k ≡ length t → put_mid at k b u ≡ put b at t
 unfolding put
-set_put l i x h = let e : suc i ≡ i + 1 = omega arith in set_split l i x h ∙ ap (λ n. take i l ++ (x ∷ drop n l)) e
-
--- a byte more
-pub laid_more :
-    (b t after : List ℕ) (at i : ℕ) → Laid (take i t) b at after (at + i) → at + i < length b → length after ≡ length b → i < length t →
-    Laid (take (i + 1) t) b at (set after (at + i) (get_or t i 0)) (at + (i + 1))
-laid_more b t a at i l h e k =
-    let byte : Laid (get_or t i 0 ∷ []) a (at + i) (set a (at + i) (get_or t i 0)) (at + suc i) =
-    record { place = omega arith; bytes = set_put a (at + i) (get_or t i 0) (omega arith) } in
-    let both = laid_then l byte (omega (arith, l.place)) in
-    rw (add-one i, take-suc t i 0 k) both
-
--- all of a text
-pub laid_all : {t before after : List ℕ} {at n : ℕ} → length t ≤ n → Laid (take n t) before at after (at + n) → Laid t before at after (at + n)
-laid_all {t} {n = n} b l = let e : take n t ≡ t = take_all n t b in rw e at l
+mid_put b t u at k e f = rw (e, f) (ap (λ r. take at b ++ (t ++ r)) (drop-drop (length t) at b))
 
 -- an end has at most 21 bytes
 pub end_behind : (none z : ℤ) {before after : List ℕ} {at next : ℕ} → Laid (end_text none z) before at after next → next ≤ at + 21

@@ -1,7 +1,7 @@
 -- The digits that are stored one before the other are `decimal`, and the lengths of the texts, whatever the numbers. Assumes nothing.
-use mathlib.Core.Path.{◌≡◌, refl, sym, ap, ◌∙◌}
+use mathlib.Core.Path.{◌≡◌, refl, sym, ◌∙◌}
 use mathlib.Core.Bool.{Bool, true, false, cond}
-use mathlib.Core.List.{List, [], ◌∷◌, ◌++◌, append_assoc, append-nil}
+use mathlib.Core.List.{List, [], ◌∷◌, ◌++◌, append_assoc}
 use Prim.Native.Nat.{ℕ, zero, suc, ◌+◌, ◌-◌, ◌*◌, ◌/◌, ◌%◌, ◌^◌, ◌≤◌, ◌<◌}
 use native.Mathlib.Nat.{pow-suc}
 use native.Mathlib.Omega.{arith}
@@ -10,8 +10,9 @@ use lib.Dec.{ltb}
 use lib.IntN.{ℤ, pos, negsuc}
 use lib.ListN.{length, take, drop, set, get_or, length-append}
 use Rattle.std.proofs.lemmas.List.{drop-set}
-use mir.Syntax.{w32}
-use mir.Val.{SFits, of_z}
+use lib.Signed.{lt_z}
+use Rattle.std.proofs.Common.{unsigned_abs}
+use Rattle.std.proofs.lemmas.Int.{ints}
 use Rattle.terms.specs.declared.Answer.{Answer}
 use Rattle.terms.specs.declared.Answer.TheVariants.{Done, Yes, No, Contradiction, Spans, End, Refused}
 use Rattle.terms.specs.Limits.{NO_TOP, NO_BOTTOM}
@@ -110,27 +111,21 @@ words_short (Refused n) = omega (arith, decimal_short n)
 double : (i : ℕ) → 2 * suc i ≡ suc (suc (2 * i))
 double i = omega arith
 
--- one pair more
-pub pairs_more :
-    (i : ℕ) (s : List ℤ) → 2 * i + 1 < length s →
-    pairs_text (take (2 * suc i) s) ≡ pairs_text (take (2 * i) s) ++ pair_text (get_or s (2 * i) (pos 0)) (get_or s (2 * i + 1) (pos 0))
+-- the first two numbers are a pair
+pub pairs_first :
+    (pair rest : List ℤ) → length pair ≡ 2 → pairs_text (pair ++ rest) ≡ pair_text (get_or pair 0 (pos 0)) (get_or pair 1 (pos 0)) ++ pairs_text rest
 unfolding pairs_text
-pairs_more zero [] l = let z : ⊥ = omega arith in absurd z
-pairs_more zero (x ∷ []) l = let z : ⊥ = omega arith in absurd z
-pairs_more zero (x ∷ (y ∷ s)) l = append-nil (pair_text x y)
-pairs_more (suc i) [] l = let z : ⊥ = omega arith in absurd z
-pairs_more (suc i) (x ∷ []) l = let z : ⊥ = omega arith in absurd z
-pairs_more (suc i) (x ∷ (y ∷ s)) l =
-    let all = x ∷ (y ∷ s) in
-    let more : take (2 * suc (suc i)) all ≡ x ∷ (y ∷ take (2 * suc i) s) = ap (λ n. take n all) (double (suc i)) in
-    let old : take (2 * suc i) all ≡ x ∷ (y ∷ take (2 * i) s) = ap (λ n. take n all) (double i) in
-    let top : get_or all (2 * suc i) (pos 0) ≡ get_or s (2 * i) (pos 0) = ap (λ n. get_or all n (pos 0)) (double i) in
-    let next : 2 * suc i + 1 ≡ suc (suc (2 * i + 1)) = omega arith in
-    let bottom : get_or all (2 * suc i + 1) (pos 0) ≡ get_or s (2 * i + 1) (pos 0) = ap (λ n. get_or all n (pos 0)) next in
-    ap pairs_text more
-    ∙ ap (λ r. pair_text x y ++ r) (pairs_more i s (omega arith))
-    ∙ sym (append_assoc (pair_text x y) (pairs_text (take (2 * i) s)) _)
-    ∙ sym (λ j. pairs_text (old j) ++ pair_text (top j) (bottom j))
+pairs_first [] rest l = let z : ⊥ = omega arith in absurd z
+pairs_first (x ∷ []) rest l = let z : ⊥ = omega arith in absurd z
+pairs_first (x ∷ (y ∷ [])) rest l = refl
+pairs_first (x ∷ (y ∷ (z ∷ s))) rest l = let z : ⊥ = omega arith in absurd z
+
+-- fewer are none
+pub pairs_few : (s : List ℤ) → length s < 2 → pairs_text s ≡ []
+unfolding pairs_text
+pairs_few [] l = refl
+pairs_few (x ∷ []) l = refl
+pairs_few (x ∷ (y ∷ s)) l = let z : ⊥ = omega arith in absurd z
 
 pub pairs_short : (i : ℕ) (s : List ℤ) → length (pairs_text (take (2 * i) s)) ≤ 44 * i
 unfolding pairs_text
@@ -140,17 +135,17 @@ pairs_short (suc i) (x ∷ []) = rw (double i) (omega arith)
 pairs_short (suc i) (x ∷ (y ∷ s)) =
     rw (double i) (omega (arith, length-append (pair_text x y) (pairs_text (take (2 * i) s)), pair_short x y, pairs_short i s))
 
--- ---- depths by their bits
+-- ---- depths by their sizes
 
-pub signed_low : (z : ℤ) → SFits w32 z → of_z w32 z < 2 ^ 31 → signed z ≡ decimal (of_z w32 z)
+pub signed_below : (z : ℤ) → lt_z z (pos 0) ≡ true → signed z ≡ codes "-" ++ decimal (unsigned_abs z)
 unfolding signed
-signed_low (pos n) f l = refl
-signed_low (negsuc n) f l = let z : ⊥ = omega (arith, f.sfits) in absurd z
+signed_below (pos n) h = let z : ⊥ = grind (arith, ints) in absurd z
+signed_below (negsuc n) h = refl
 
-pub signed_high : (z : ℤ) → SFits w32 z → 2 ^ 31 ≤ of_z w32 z → signed z ≡ codes "-" ++ decimal (2 ^ 32 - of_z w32 z)
+pub signed_from : (z : ℤ) → lt_z z (pos 0) ≡ false → signed z ≡ decimal (unsigned_abs z)
 unfolding signed
-signed_high (pos n) f l = let z : ⊥ = omega (arith, f.sfits) in absurd z
-signed_high (negsuc n) f l = let e : 2 ^ 32 - (2 ^ 32 - suc n) ≡ suc n = omega (arith, f.sfits) in rw e
+signed_from (pos n) h = refl
+signed_from (negsuc n) h = let z : ⊥ = grind (arith, ints) in absurd z
 
 -- ---- an end, or none
 

@@ -13,12 +13,9 @@ pub fn put_text(out: &mut [u8], at: usize, text: &[u8]) -> usize
     requires { at + length text.now ≤ length out.old }
     ensures { Laid text.now out.old at out.new result }
 {
-    let mut i = 0;
-    while i < text.len() {
-        out[at + i] = text[i];
-        i += 1;
-    }
-    at + i
+    let end = at + text.len();
+    out[at..end].copy_from_slice(text);
+    end
 }
 
 pub fn put_number(out: &mut [u8], at: usize, n: u64) -> usize
@@ -51,12 +48,12 @@ fn put_depth(out: &mut [u8], at: usize, depth: i32) -> usize
     requires { at + 21 ≤ length out.old }
     ensures { Laid (signed depth) out.old at out.new result }
 {
-    let b = codec::bits32(depth);
-    if b < 0x8000_0000 {
-        return put_number(out, at, b as u64);
+    let size = u64::from(depth.unsigned_abs());
+    if depth < 0 {
+        let digits = put_text(out, at, b"-");
+        return put_number(out, digits, size);
     }
-    let next = put_text(out, at, b"-");
-    put_number(out, next, 0x1_0000_0000 - b as u64)
+    put_number(out, at, size)
 }
 
 // A word of at most 16 bytes and its number.
@@ -68,7 +65,8 @@ pub fn put_counted(out: &mut [u8], at: usize, word: &[u8], n: u64) -> usize
     put_number(out, next, n)
 }
 
-// The words of an answer, without the pairs of spans.
+// The words of an answer, without the pairs of spans. By bytes and not by Display: the contract of `line` says which byte stands
+// where, and a formatter's does not.
 #[tactic(auto, unfolding(crate::specs::Lines::words))]
 pub fn put_answer(out: &mut [u8], at: usize, a: Answer) -> usize
     requires { at + 36 ≤ length out.old }
@@ -78,14 +76,14 @@ pub fn put_answer(out: &mut [u8], at: usize, a: Answer) -> usize
         Answer::Done => put_text(out, at, b"done"),
         Answer::Yes => put_text(out, at, b"yes"),
         Answer::No => put_text(out, at, b"no"),
-        Answer::Contradiction(item) => put_counted(out, at, b"contradiction ", item as u64),
-        Answer::Spans(count) => put_counted(out, at, b"spans ", count as u64),
+        Answer::Contradiction(item) => put_counted(out, at, b"contradiction ", u64::from(item)),
+        Answer::Spans(count) => put_counted(out, at, b"spans ", u64::from(count)),
         Answer::End => put_text(out, at, b"end"),
-        Answer::Refused(number) => put_counted(out, at, b"refused ", number as u64),
+        Answer::Refused(number) => put_counted(out, at, b"refused ", u64::from(number)),
     }
 }
 
-// A depth, or a star for the number that means no end on its side.
+// A depth, or a star for the number that means no end on its side: the C interface has that number.
 fn put_end(out: &mut [u8], at: usize, depth: i32, none: i32) -> usize
     requires { at + 21 ≤ length out.old }
     ensures { Laid (end_text none depth) out.old at out.new result }
@@ -106,15 +104,14 @@ fn put_pair(out: &mut [u8], at: usize, top: i32, bottom: i32) -> usize
     put_end(out, lower, bottom, NO_BOTTOM)
 }
 
-fn put_pairs(out: &mut [u8], at: usize, spans: &[i32], count: usize) -> usize
-    requires { (at + 44 * count ≤ length out.old) × (2 * count ≤ length spans.now) }
-    ensures { Laid (pairs_text (take (2 * count) spans.now)) out.old at out.new result }
+// Each two numbers as a pair.
+fn put_pairs(out: &mut [u8], at: usize, spans: &[i32]) -> usize
+    requires { at + 22 * length spans.now ≤ length out.old }
+    ensures { Laid (pairs_text spans.now) out.old at out.new result }
 {
     let mut next = at;
-    let mut i: usize = 0;
-    while i < count {
-        next = put_pair(out, next, spans[2 * i], spans[2 * i + 1]);
-        i += 1;
+    for pair in spans.chunks_exact(2) {
+        next = put_pair(out, next, pair[0], pair[1]);
     }
     next
 }
@@ -123,13 +120,8 @@ fn pair_count(answer: Answer) -> usize
     ensures { result ≡ pair_count answer }
 {
     match answer {
-        Answer::Done => 0,
-        Answer::Yes => 0,
-        Answer::No => 0,
-        Answer::Contradiction(_) => 0,
-        Answer::Spans(count) => count as usize,
-        Answer::End => 0,
-        Answer::Refused(_) => 0,
+        Answer::Spans(count) => usize::from(count),
+        _ => 0,
     }
 }
 
@@ -141,6 +133,6 @@ pub fn line(out: &mut [u8], number: u64, answer: Answer, spans: &[i32]) -> usize
     let blank = put_number(out, 0, number);
     let words = put_text(out, blank, b" ");
     let pairs = put_answer(out, words, answer);
-    let end = put_pairs(out, pairs, spans, pair_count(answer));
+    let end = put_pairs(out, pairs, &spans[..2 * pair_count(answer)]);
     put_text(out, end, b"\n")
 }

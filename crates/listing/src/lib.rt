@@ -2,46 +2,34 @@
 #![tactic(auto)]
 
 ghost use Rattle.std.specs.Prelude.{◌≡◌, ◌≤◌, length, take};
+ghost use Rattle.listing.specs.Came.{came};
 
 use std::io;
 use std::io::Read;
 
-// How many bytes came, and whether a read failed after them.
-#[derive(Drop)]
-pub struct Input {
-    pub count: usize,
-    pub failed: bool,
-}
-
-// Reads on until the input ends, a read fails or the buffer is full. A failed read is said on standard error under the name.
-pub fn read_input(rt: &(impl io::Input + Eprint), buf: &mut [u8], name: &[u8]) -> Input
-    ensures in_bounds { result.count ≤ length buf.new }
-    ensures front { result.count ≡ length (take result.count buf.new) }
+// Reads on until the input ends or the buffer is full, and answers how many bytes came. A failed read is said on standard
+// error under the name, and the bytes that came before it are the error.
+pub fn read_input(
+    rt: &(impl io::Input + Eprint),
+    buf: &mut [u8],
+    name: &[u8],
+) -> Result<usize, usize>
+    ensures in_bounds { came result ≤ length buf.new }
+    ensures front { came result ≡ length (take (came result) buf.new) }
 {
     let mut input = rt.reader();
     let mut count = 0;
     while count < buf.len() {
         match input.read(&mut buf[count..]) {
-            Ok(0) => {
-                return Input {
-                    count,
-                    failed: false,
-                };
-            }
+            Ok(0) => break,
             Ok(n) => count += n,
             Err(error) => {
                 say(rt, name, error);
-                return Input {
-                    count,
-                    failed: true,
-                };
+                return Err(count);
             }
         }
     }
-    Input {
-        count,
-        failed: false,
-    }
+    Ok(count)
 }
 
 // Writes a line; a failed write is said on standard error under the name, and answers false.
@@ -53,13 +41,6 @@ pub fn print(rt: &(impl Print + Eprint), line: &[u8], name: &[u8]) -> bool {
             false
         }
     }
-}
-
-// Writes the first bytes of a buffer so.
-pub fn print_first(rt: &(impl Print + Eprint), out: &[u8], count: usize, name: &[u8]) -> bool
-    requires { count ≤ length out.now }
-{
-    print(rt, &out[..count], name)
 }
 
 // Says on standard error what failed, a colon and the error.

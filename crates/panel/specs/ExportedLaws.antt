@@ -1,5 +1,5 @@
 -- The exported calls over those of the service: no bytes beside the records, names as numbers. Assumes nothing.
-use Rattle.std.specs.Prelude.{◌≡◌, refl, Bool, true, false, not, cond, ◌&&◌, [], ◌∷◌, ℕ, ◌≤◌, ltb}
+use Rattle.std.specs.Prelude.{◌≡◌, refl, Bool, true, false, not, cond, ◌&&◌, [], ◌∷◌, ℕ, ◌≤◌, ltb, Result, Err}
 use Rattle.std.proofs.Common.{sym, ap, ◌∙◌, arith, le-ltb, ltb-false}
 use Rattle.terms.specs.declared.Answer.{Answer}
 use Rattle.terms.specs.declared.Question.{Question}
@@ -8,8 +8,7 @@ use Rattle.terms.specs.Limits.{ITEMS, LABELS, is_item, is_label}
 use Rattle.refusals.specs.Refusals.{test, tested}
 use Rattle.terms.specs.Held.{Held, is_question}
 use Rattle.block.specs.Block.{read_held}
-use Rattle.records.specs.declared.Command.TheVariants as Command
-use Rattle.records.specs.declared.Decoded.{Decoded}
+use Rattle.records.specs.declared.Command.{Command}
 use Rattle.records.specs.Records.{decoded_as, as_question, parsed_body}
 use Rattle.commands.specs.Call.{judged, on_lent, span_call}
 use Rattle.commands.specs.Buffers.{Buffers, After, after}
@@ -35,23 +34,23 @@ abbrev pub clamped : ℕ → ℕ
 clamped n = cond (ltb n 256) n 255
 
 -- 01, Where a record is turned away: body
-not_named : (σ : Settings) (q : Question) → is_question q ≡ false → as_question σ q ≡ Decoded.Refused 6
+not_named : (σ : Settings) (q : Question) → is_question q ≡ false → as_question σ q ≡ Err 6
 not_named σ q e = ap (λ v. decoded_as (tested (test (not v) 6 ∷ [])) (Command.Ask q)) e
 
-no_label : (σ : Settings) (a A : ℕ) → LABELS ≤ A → as_question σ (Question.Spans a A) ≡ Decoded.Refused 6
+no_label : (σ : Settings) (a A : ℕ) → LABELS ≤ A → as_question σ (Question.Spans a A) ≡ Err 6
 no_label σ a A l = not_named σ (Question.Spans a A) (ap (λ v. is_item a && v) (le-ltb A LABELS l) ∙ none (is_item a))
   where
     none : (v : Bool) → (v && false) ≡ false
     none true = refl
     none false = refl
 
-no_item : (σ : Settings) (a A : ℕ) → ITEMS ≤ a → as_question σ (Question.Spans a A) ≡ Decoded.Refused 6
+no_item : (σ : Settings) (a A : ℕ) → ITEMS ≤ a → as_question σ (Question.Spans a A) ≡ Err 6
 no_item σ a A l = not_named σ (Question.Spans a A) (ap (λ v. v && is_label A) (le-ltb a ITEMS l))
 
 -- a number that no byte holds and 255 are refused alike
 pub spans_clamped : (m : Buffers) (a A : ℕ) → span_call m (clamped a) (clamped A) ≡ span_call m a A
 unfolding span_call
-spans_clamped m a A = ap (λ (x : Decoded). on_lent m (judged h (parsed_body x [] 0))) (go (ltb a 256) (ltb A 256) refl refl)
+spans_clamped m a A = ap (λ (x : Result Command ℕ). on_lent m (judged h (parsed_body x [] 0))) (go (ltb a 256) (ltb A 256) refl refl)
   where
     h : Held
     h = read_held m.block

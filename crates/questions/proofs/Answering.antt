@@ -1,67 +1,36 @@
 -- What was read off the filled tables is the answer. Assumes nothing.
 use mathlib.Core.Path.{◌≡◌, refl, sym, ap, ◌∙◌}
-use mathlib.Core.Bool.{Bool, true, false, cond, ◌&&◌}
+use mathlib.Core.Bool.{Bool}
 use mathlib.Core.List.{List, ◌++◌}
 use Prim.Native.Nat.{ℕ, ◌≤◌, ◌<◌}
 use native.Mathlib.Omega.{arith}
 use lib.Dec.{T}
 use lib.IntN.{ℤ}
-use lib.ListN.{length, take, drop}
-use Rattle.terms.specs.declared.Atom.{Atom}
+use lib.ListN.{length, drop}
 use Rattle.terms.specs.declared.Answer.{Answer}
 use Rattle.terms.specs.declared.Question.{Question}
 use Rattle.terms.specs.Limits.{ITEMS, CUTS, INTERVALS, LABEL_ENTRIES, LINK_ENTRIES}
-use Rattle.terms.specs.declared.Hole.{Hole}
-use Rattle.terms.specs.Holes.{is_inside}
 use Rattle.terms.specs.Held.{Held, hole_in, is_question}
-use Rattle.terms.specs.HoleLaws.{line_of}
 use Rattle.terms.specs.Spans.{Run}
 use Rattle.line.specs.Cuts.{upto}
 use Rattle.line.specs.CutLaws.{upto_length}
 use Rattle.line.specs.Intervals.{cuts_of}
-use Rattle.line.specs.Code.{NowCuts}
 use Rattle.state.specs.declared.State.{State}
 use Rattle.state.specs.State.{held_of}
 use Rattle.tables.specs.Tables.{label_table, link_table}
 use Rattle.tables.specs.Seeded.{Shown}
-use Rattle.verdicts.specs.declared.Clash.{Clash}
-use Rattle.spans.specs.Runs.{runs, has_label}
+use Rattle.spans.specs.Runs.{runs}
 use Rattle.spans.specs.Code.{SpansWritten}
 use Rattle.spans.proofs.Longest.{runs_fit}
 use Rattle.logic.specs.Classes.{concerns_b}
-use Rattle.verdicts.specs.Reading.{Lookup, lowest_of, clash_of, clashes_in, clash_in, holds_in}
+use Rattle.verdicts.specs.Reading.{lowest_of, clashes_in, clash_in}
+use Rattle.std.specs.Prelude.{Option, Some, None}
 use Rattle.decide.specs.Answer.{clash_or, answer}
-use Rattle.decide.specs.Decides.{Verdict, Yes, No, Spans, Reply, Contradiction, Answered}
+use Rattle.decide.specs.Decides.{Verdict, Reply, Contradiction, Answered}
 use Rattle.decide.specs.Verdicts.{answer_of, table_verdict}
 use Rattle.decide.proofs.Verdicts.{answer_is, clash_nowhere, clash_item}
 use Rattle.questions.specs.Code.{HeldState, spans_after, ReadOff, Answered-as}
 use Rattle.questions.proofs.Given.{few, ranged}
-
--- a statement's bit, read off
-pub holds_read :
-    (H : Hole) (cs : List ℤ) (labels links : List ℕ) (q : Question) (x : Atom) (i : ℤ) (spans : List ℤ) → q ≡ Question.Holds x i →
-    (b : Bool) → (is_inside H i && holds_in labels links x (upto cs i)) ≡ b → ReadOff H cs labels links q spans spans (answer_of (Answered (cond b Yes No)))
-holds_read H cs labels links q x i spans e b f =
-    let v : table_verdict H cs labels links q ≡ cond b Yes No = ap (table_verdict H cs labels links) e ∙ ap (λ (t : Bool). cond t Yes No) f in
-    record {
-      said = sym (ap (λ (w : Verdict). answer_of (Answered w)) v);
-      buffer = no_spans b ∙ sym (ap (λ (w : Verdict). spans_after (Answered w) spans) v);
-    }
-  where
-    no_spans : (b : Bool) → spans ≡ spans_after (Answered (cond b Yes No)) spans
-    no_spans true = refl
-    no_spans false = refl
-
--- spans, written
-pub spans_read :
-    (H : Hole) (cs : List ℤ) (labels links : List ℕ) (q : Question) (a A : ℕ) (spans spans' : List ℤ) (n : ℕ) → q ≡ Question.Spans a A →
-    SpansWritten (runs (line_of H) cs (has_label labels a A)) spans spans' n → ReadOff H cs labels links q spans spans' (Answer.Spans n)
-spans_read H cs labels links q a A spans spans' n e W =
-    let v : table_verdict H cs labels links q ≡ Spans (runs (line_of H) cs (has_label labels a A)) = ap (table_verdict H cs labels links) e in
-    record {
-      said = ap Answer.Spans W.count ∙ sym (ap (λ (w : Verdict). answer_of (Answered w)) v);
-      buffer = W.buffer ∙ sym (ap (λ (w : Verdict). spans_after (Answered w) spans) v);
-    }
 
 -- the number of spans fits in two bytes
 pub count_fits : (e : Run) (cs : List ℤ) (f : ℕ → Bool) (before after : List ℤ) (n : ℕ) → length cs ≤ CUTS →
@@ -74,7 +43,7 @@ interval_low cs i p few e = omega (arith, upto_length cs i)
 
 -- both tables are filled, and what they clash at was read
 module _
-    (s : State) (H : HeldState s) (l k l' k' : List ℕ) (S : Shown (held_of s) l k l' k') (c : Clash)
+    (s : State) (H : HeldState s) (l k l' k' : List ℕ) (S : Shown (held_of s) l k l' k') (c : Option ℕ)
     (q : Question) (named : T (is_question q)) (read : c ≡ clash_in (concerns_b (held_of s).marks q) l') (spans : List ℤ) where
   abbrev h : Held
   h = held_of s
@@ -85,13 +54,13 @@ module _
   abbrev links : List ℕ
   links = link_table h ++ drop LINK_ENTRIES k
 
-  abbrev found : Lookup
+  abbrev found : Option ℕ
   found = lowest_of (clashes_in (concerns_b h.marks q) labels) ITEMS 0
 
   abbrev said : Verdict
   said = table_verdict (hole_in h) (cuts_of h) labels links q
 
-  clash : clash_of found ≡ c
+  clash : found ≡ c
   unfolding clash_in
   clash = sym (read ∙ ap (clash_in (concerns_b h.marks q)) S.label_table_lem)
 
@@ -106,16 +75,16 @@ module _
     buffer = g ∙ sym (ap (λ (x : Reply). spans_after x spans) e);
   }
 
-  pub contradictory : (item : ℕ) → c ≡ Clash.Item item → Answered-as h q l k spans l' k' spans (Answer.Contradiction item)
+  pub contradictory : (item : ℕ) → c ≡ Some item → Answered-as h q l k spans l' k' spans (Answer.Contradiction item)
   contradictory item e = as_replied (Contradiction item) (by_tables ∙ clash_item found said item (clash ∙ e)) spans (Answer.Contradiction item) refl refl
 
   pub plain :
-      c ≡ Clash.Nowhere → {was : List ℤ} (cuts : List ℤ) (n : ℕ) → NowCuts (cuts_of h) was cuts n → (spans' : List ℤ) (a : Answer) →
-      ReadOff (hole_in h) (take n cuts) l' k' q spans spans' a → Answered-as h q l k spans l' k' spans' a
-  plain e cuts n N spans' a R =
-      let same : table_verdict (hole_in h) (take n cuts) l' k' q ≡ said =
-      ap (λ (cs : List ℤ). table_verdict (hole_in h) cs l' k' q) N.list
+      c ≡ None → (cuts : List ℤ) → cuts ≡ cuts_of h → (spans' : List ℤ) (a : Answer) →
+      ReadOff (hole_in h) cuts l' k' q spans spans' a → Answered-as h q l k spans l' k' spans' a
+  plain e cuts N spans' a R =
+      let same : table_verdict (hole_in h) cuts l' k' q ≡ said =
+      ap (λ (cs : List ℤ). table_verdict (hole_in h) cs l' k' q) N
       ∙ ap (λ (y : List ℕ). table_verdict (hole_in h) (cuts_of h) y k' q) S.label_table_lem
       ∙ ap (λ (y : List ℕ). table_verdict (hole_in h) (cuts_of h) labels y q) S.link_table_lem in
-      as_replied (Answered (table_verdict (hole_in h) (take n cuts) l' k' q))
+      as_replied (Answered (table_verdict (hole_in h) cuts l' k' q))
       (by_tables ∙ clash_nowhere found said (clash ∙ e) ∙ ap Answered (sym same)) spans' a R.said R.buffer

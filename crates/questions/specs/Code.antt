@@ -1,13 +1,12 @@
 -- What the parts of a question say.
-use Rattle.std.specs.Prelude.{◌≡◌, List, ◌++◌, ℕ, ◌≤◌, T, ℤ, length, take, drop}
+use Rattle.std.specs.Prelude.{◌≡◌, List, ◌++◌, ℕ, ◌≤◌, T, ℤ, length, drop}
 use Rattle.terms.specs.declared.Answer.{Answer}
 use Rattle.terms.specs.declared.Question.{Question}
 use Rattle.terms.specs.declared.Hole.{Hole}
-use Rattle.terms.specs.Limits.{CUTS, LABEL_ENTRIES, LINK_ENTRIES, SPAN_NUMBERS}
+use Rattle.terms.specs.Limits.{LABEL_ENTRIES, LINK_ENTRIES, SPAN_NUMBERS}
 use Rattle.terms.specs.Held.{Held, is_question}
 use Rattle.terms.specs.Lists.{limits}
 use Rattle.terms.specs.Spans.{flat}
-use Rattle.line.specs.Code.{CutsIn, LowCuts}
 use Rattle.state.specs.declared.State.{State}
 use Rattle.state.specs.State.{held_of, CountsIn}
 use Rattle.tables.specs.Seeded.{Shown}
@@ -27,11 +26,8 @@ spans_after (Answered Yes) s = s
 spans_after (Answered No) s = s
 spans_after (Answered (Spans rs)) s = flat rs ++ drop (length (flat rs)) s
 
--- what is read off for a question: long enough tables and span buffer, the first n cuts, and names that there are
-pub record ToRead (labels links : List ℕ) (spans cuts : List ℤ) (n : ℕ) (q : Question) : Type 0 where
-  pub cuts_in : CutsIn cuts n
-  pub low : LowCuts cuts n
-  pub few : length (take n cuts) ≤ CUTS
+-- what is read off for a question: long enough tables and span buffer, and names that there are
+pub record ToRead (labels links : List ℕ) (spans : List ℤ) (q : Question) : Type 0 where
   pub labels_long : LABEL_ENTRIES ≤ length labels
   pub links_long : LINK_ENTRIES ≤ length links
   pub spans_long : SPAN_NUMBERS ≤ length spans

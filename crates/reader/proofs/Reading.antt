@@ -1,4 +1,5 @@
 -- What is read of the input is what the definition says. Assumes nothing.
+use Rattle.std.specs.Prelude.{Result, Ok, Err}
 use mathlib.Core.Path.{◌≡◌, refl, sym, ap, ◌∙◌, subst}
 use mathlib.Core.List.{List}
 use Prim.Native.Nat.{ℕ, ◌+◌, ◌-◌, ◌≤◌}
@@ -7,7 +8,6 @@ use lib.Dec.{T}
 use lib.ListN.{length, take, drop, length-drop}
 use lib.Seq.{drop-drop, length-take-le}
 use Rattle.records.specs.declared.Command.{Command}
-use Rattle.records.specs.declared.Decoded.{Decoded}
 use Rattle.frames.specs.declared.Framed.TheVariants as Framed
 use Rattle.records.specs.Records.{decode_body, parsed_body, parsed_frame, parse}
 use Rattle.frames.specs.Framing.{framed, FramedIn, framed_in}
@@ -44,24 +44,24 @@ pub read_refused : (σ : Settings) (x : List ℕ) (n u : ℕ) → framed x ≡ F
 unfolding parse
 read_refused σ x n u e = record { parsed = sym (ap (parsed_frame σ x) e); framed = λ c w f. differ (cc) }
 
-input_parsed : (d : Decoded) (u : ℕ) (b : List ℕ) → parsed_of (input_of d u) b ≡ parsed_body d b u
-input_parsed (Decoded.Command c) u b = refl
-input_parsed (Decoded.Refused n) u b = refl
+input_parsed : (d : Result Command ℕ) (u : ℕ) (b : List ℕ) → parsed_of (input_of d u) b ≡ parsed_body d b u
+input_parsed (Ok c) u b = refl
+input_parsed (Err n) u b = refl
 
-input_used : (d : Decoded) (u : ℕ) (c : Command) (w : ℕ) → input_of d u ≡ Input.Record c w → u ≡ w
-input_used (Decoded.Command x) u c w e = cc
-input_used (Decoded.Refused n) u c w e = differ (cc)
+input_used : (d : Result Command ℕ) (u : ℕ) (c : Command) (w : ℕ) → input_of d u ≡ Input.Record c w → u ≡ w
+input_used (Ok x) u c w e = cc
+input_used (Err n) u c w e = differ (cc)
 
 -- a frame, and what its body was decoded as
 pub read_record :
-    (σ : Settings) (x : List ℕ) (k u : ℕ) → framed x ≡ Framed.Record k u → (d : Decoded) → d ≡ decode_body σ k (body_of x) → (r : Input) → r ≡ input_of d u →
+    (σ : Settings) (x : List ℕ) (k u : ℕ) → framed x ≡ Framed.Record k u → (d : Result Command ℕ) → d ≡ decode_body σ k (body_of x) → (r : Input) → r ≡ input_of d u →
     ParsedAs σ x r
 unfolding parse
 read_record σ x k u e d f r g = record {
   parsed =
       ap (λ (i : Input). parsed_of i (body_of x)) g
       ∙ input_parsed d u (body_of x)
-      ∙ ap (λ (y : Decoded). parsed_body y (body_of x) u) f
+      ∙ ap (λ (y : Result Command ℕ). parsed_body y (body_of x) u) f
       ∙ sym (ap (parsed_frame σ x) e);
   framed = λ c w z. (k, subst (FramedIn x k) (input_used d u c w (sym g ∙ z)) (framed_in x k u e));
 }

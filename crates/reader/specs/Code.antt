@@ -1,8 +1,7 @@
 -- What the parts of the reading say.
-use Rattle.std.specs.Prelude.{◌≡◌, List, ℕ}
+use Rattle.std.specs.Prelude.{◌≡◌, List, ℕ, Result, Ok, Err}
 use Rattle.reader.specs.declared.Input.{Input}
 use Rattle.records.specs.declared.Command.{Command}
-use Rattle.records.specs.declared.Decoded.{Decoded}
 use Rattle.records.specs.Parsed.{Parsed}
 use Rattle.records.specs.Records.{parse}
 use Rattle.frames.specs.Frames.{body_of}
@@ -10,9 +9,9 @@ use Rattle.frames.specs.Framing.{FramedIn}
 use Rattle.terms.specs.declared.Settings.{Settings}
 
 -- what was decoded, with the bytes of its record
-abbrev pub input_of : Decoded → ℕ → Input
-input_of (Decoded.Command c) u = Input.Record c u
-input_of (Decoded.Refused n) u = Input.Refused n u
+abbrev pub input_of : Result Command ℕ → ℕ → Input
+input_of (Ok c) u = Input.Record c u
+input_of (Err n) u = Input.Refused n u
 
 -- what was read, with the body beside its command
 abbrev pub parsed_of : Input → List ℕ → Parsed

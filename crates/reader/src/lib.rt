@@ -3,11 +3,12 @@
 
 ghost use Rattle.std.specs.Prelude.{◌≡◌, drop};
 ghost use Rattle.frames.specs.Framing.{framed};
+ghost use Rattle.terms.specs.Otherwise.{by_number};
 ghost use Rattle.reader.specs.Code.{input_of, ParsedAs};
 
 use frames::Framed;
-use records::{Command, Decoded};
-use terms::Settings;
+use records::Command;
+use terms::{Refusal, Settings};
 
 #[derive(Drop)]
 pub struct Reader<'a> {
@@ -47,7 +48,7 @@ pub fn read(src: &[u8], at: usize) -> Framed
 }
 
 // What is left of the input, read: nothing; a refusal's number and the bytes used; a command and the bytes of its record. The body stands beside it in
-// the input. (The state is not handed through the reading: each hand-on by value is a copy on the stack.)
+// the input. (Three outcomes, so no Result; the number is what the reply gives. The state is not handed through the reading: each hand-on by value is a copy on the stack.)
 #[derive(Drop)]
 pub enum Input {
     Nothing,
@@ -56,12 +57,12 @@ pub enum Input {
 }
 
 // A body that was decoded, with the bytes of its record.
-fn input_of(decoded: Decoded, used: usize) -> Input
-    ensures { result ≡ input_of decoded used }
+fn input_of(decoded: Result<Command, Refusal>, used: usize) -> Input
+    ensures { result ≡ input_of (by_number decoded) used }
 {
     match decoded {
-        Decoded::Command(command) => Input::Record(command, used),
-        Decoded::Refused(number) => Input::Refused(number, used),
+        Ok(command) => Input::Record(command, used),
+        Err(refusal) => Input::Refused(refusal.number(), used),
     }
 }
 

@@ -1,9 +1,8 @@
 -- 01's records: the fields of each kind's body.
-use Rattle.std.specs.Prelude.{Bool, true, false, not, List, ℕ, ℤ, get_or}
+use Rattle.std.specs.Prelude.{Bool, true, false, not, List, ℕ, ℤ, get_or, Option, Some, None}
 use Rattle.codec.specs.Bytes.{little, signed32_at, signed64_at}
+use Rattle.terms.specs.declared.Operator.{Operator}
 use Rattle.terms.specs.declared.Counting.{Counting}
-use Rattle.terms.specs.declared.OperatorRead.{OperatorRead}
-use Rattle.terms.specs.declared.OperatorRead.TheVariants.{Valid, Invalid}
 use Rattle.terms.specs.declared.Rule.{Rule}
 use Rattle.terms.specs.declared.Rule.TheVariants.{Label, Both, Link, Via}
 use Rattle.terms.specs.declared.Atom.TheVariants.{Has, Linked}
@@ -15,12 +14,12 @@ use Rattle.terms.specs.Operators.{operator_of, or_identity}
 -- ---- the bodies
 
 -- 01, Records: code and n, one after the other
-abbrev pub operator_at : List ℕ → OperatorRead
+abbrev pub operator_at : List ℕ → Option Operator
 operator_at b = operator_of (get_or b 0 0) (little 4 b 1)
 
-abbrev pub is_invalid : OperatorRead → Bool
-is_invalid (Valid o) = false
-is_invalid Invalid = true
+abbrev pub is_invalid : Option Operator → Bool
+is_invalid (Some o) = false
+is_invalid None = true
 
 -- 01, Records: the rules
 abbrev pub label_rule : List ℕ → Rule

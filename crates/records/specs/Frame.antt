@@ -3,7 +3,7 @@ use Rattle.std.specs.Prelude.{◌≡◌, List, ◌++◌, ℕ, ◌+◌, ◌-◌, 
 use Rattle.std.proofs.Common.{sym, ap, ◌∙◌, subst, arith, take_all}
 use Rattle.codec.specs.Bytes.{little, bytes}
 use Rattle.terms.specs.declared.Settings.{Settings}
-use Rattle.terms.specs.declared.Tested.{Tested}
+use Rattle.refusals.specs.Refusals.{Tested}
 use Rattle.frames.specs.declared.Framed.{Framed}
 use Rattle.frames.specs.Framing.{framed, framed_as, frame_kind, known}
 use Rattle.records.specs.Records.{decode_body, parsed_body, parsed_frame, parse}

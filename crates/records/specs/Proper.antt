@@ -1,5 +1,5 @@
 -- What is read is in range, and what is in range reads back. Assumes nothing.
-use Rattle.std.specs.Prelude.{◌≡◌, Bool, true, false, not, cond, ◌&&◌, List, [], ◌∷◌, ◌++◌, ℕ, ◌+◌, ◌<◌, T, eqb, ℤ, pos, negsuc, length, get_or}
+use Rattle.std.specs.Prelude.{◌≡◌, Bool, true, false, not, cond, ◌&&◌, List, [], ◌∷◌, ◌++◌, ℕ, ◌+◌, ◌<◌, T, eqb, ℤ, pos, negsuc, length, get_or, Option, Some, None, Result, Ok, Err}
 use Rattle.std.proofs.Math.Path.{refl, ap}
 use Rattle.std.proofs.Common.{sym, ◌∙◌, subst, arith, leb→le, SFits, to_z}
 use Rattle.std.specs.Int.Signed.{le_z}
@@ -9,8 +9,6 @@ use Rattle.codec.proofs.Laws.{little_bytes, signed_read}
 use Rattle.terms.specs.declared.Counting.{Counting}
 use Rattle.terms.specs.declared.Counting.TheVariants.{Old, New}
 use Rattle.terms.specs.declared.Operator.{Operator}
-use Rattle.terms.specs.declared.OperatorRead.{OperatorRead}
-use Rattle.terms.specs.declared.OperatorRead.TheVariants.{Valid, Invalid}
 use Rattle.terms.specs.declared.Rule.{Rule}
 use Rattle.terms.specs.declared.Rule.TheVariants.{Label, Both, Link, Via}
 use Rattle.terms.specs.declared.Atom.{Atom}
@@ -31,7 +29,6 @@ use Rattle.terms.specs.Same.{kind_of}
 use Rattle.refusals.specs.Refusals.{test, tested}
 use Rattle.terms.specs.Tests.{and_both, both_and}
 use Rattle.records.specs.declared.Command.{Command}
-use Rattle.records.specs.declared.Decoded.{Decoded}
 use Rattle.frames.specs.declared.Framed.{Framed}
 use Rattle.records.specs.Parsed.{Parsed}
 use Rattle.records.specs.Records.{
@@ -116,9 +113,9 @@ at_two F f g d e (r ∷ rs) k = go (eqb k r.number) (at_two F f g d e rs k)
 -- ---- what is read is in range
 
 -- a command that a body gives is in range
-abbrev ProperDecoded : Decoded → Type 0
-ProperDecoded (Decoded.Command c) = T (Proper c)
-ProperDecoded (Decoded.Refused n) = Unit {0}
+abbrev ProperDecoded : Result Command ℕ → Type 0
+ProperDecoded (Ok c) = T (Proper c)
+ProperDecoded (Err n) = Unit {0}
 
 -- and one that the input gives
 abbrev ProperParsed : Parsed → Type 0
@@ -148,10 +145,10 @@ three_tests false q r l m n c h = tt
 
 -- an operator that was read is in range
 operator_test :
-    (p : Bool) (r : OperatorRead) (c : Command) → ProperRead r → (T (is_operator (or_identity r)) → T p → T (Proper c)) →
+    (p : Bool) (r : Option Operator) (c : Command) → ProperRead r → (T (is_operator (or_identity r)) → T p → T (Proper c)) →
     ProperDecoded (decoded_as (tested (test (not p) 6 ∷ test (is_invalid r) 7 ∷ [])) c)
-operator_test true (Valid o) c g h = h g tt
-operator_test true Invalid c g h = tt
+operator_test true (Some o) c g h = h g tt
+operator_test true None c g h = tt
 operator_test false r c g h = tt
 
 mark_test : (m : Mark) (c : Command) → (T (is_mark m) → T (Proper c)) → (σ : Settings) → ProperDecoded (decoded_as (tested (mark_tests σ m)) c)
@@ -172,7 +169,7 @@ unfolding body_tests command_in
 body_proper σ k b =
     subst ProperDecoded
     (sym (at_two (λ ts c. decoded_as (tested ts) c) (λ r. r.tests σ b) (λ r. r.command b) [] Command.Reset kinds k))
-    (at_rows ProperDecoded (λ r. decoded_as (tested (r.tests σ b)) (r.command b)) (Decoded.Command Command.Reset) kinds tt (
+    (at_rows ProperDecoded (λ r. decoded_as (tested (r.tests σ b)) (r.command b)) (Ok Command.Reset) kinds tt (
       tt,
       (
         rule_test b (label_rule b) (both_and (is_operator (or_identity (operator_at b))) (is_named (label_rule b))) σ,
@@ -225,9 +222,9 @@ body_proper σ k b =
       ),
     ) k)
 
-used_proper : (d : Decoded) (b : List ℕ) (u : ℕ) → ProperDecoded d → ProperParsed (parsed_body d b u)
-used_proper (Decoded.Command c) b u h = h
-used_proper (Decoded.Refused n) b u h = tt
+used_proper : (d : Result Command ℕ) (b : List ℕ) (u : ℕ) → ProperDecoded d → ProperParsed (parsed_body d b u)
+used_proper (Ok c) b u h = h
+used_proper (Err n) b u h = tt
 
 parsed_proper : (σ : Settings) (s : List ℕ) (f : Framed) → ProperParsed (parsed_frame σ s f)
 parsed_proper σ s Framed.Nothing = tt
@@ -311,30 +308,30 @@ abbrev pub write : Command → List ℕ
 write c = record_bytes (change_kind c) (change_body c)
 
 -- where the tests pass, the command is given
-named_passes : (p : Bool) (c : Command) → T p → decoded_as (tested (test (not p) 6 ∷ [])) c ≡ Decoded.Command c
+named_passes : (p : Bool) (c : Command) → T p → decoded_as (tested (test (not p) 6 ∷ [])) c ≡ Ok c
 named_passes true c t = refl
 named_passes false c t = absurd t
 
 mark_passes :
     (p q r : Bool) (c : Command) → T (p && (q && r)) →
-    decoded_as (tested (test (not p) 6 ∷ test (not q) 8 ∷ test (not r) 14 ∷ [])) c ≡ Decoded.Command c
+    decoded_as (tested (test (not p) 6 ∷ test (not q) 8 ∷ test (not r) 14 ∷ [])) c ≡ Ok c
 mark_passes true true true c t = refl
 mark_passes true true false c t = absurd t
 mark_passes true false r c t = absurd t
 mark_passes false q r c t = absurd t
 
-hole_passes : (p q : Bool) (c : Command) → T (p && q) → decoded_as (tested (test (not p) 8 ∷ test (not q) 14 ∷ [])) c ≡ Decoded.Command c
+hole_passes : (p q : Bool) (c : Command) → T (p && q) → decoded_as (tested (test (not p) 8 ∷ test (not q) 14 ∷ [])) c ≡ Ok c
 hole_passes true true c t = refl
 hole_passes true false c t = absurd t
 hole_passes false q c t = absurd t
 
 operator_passes :
-    (p : Bool) (r : OperatorRead) (o : Operator) (k : Operator → Command) → T p → r ≡ Valid o →
-    decoded_as (tested (test (not p) 6 ∷ test (is_invalid r) 7 ∷ [])) (k (or_identity r)) ≡ Decoded.Command (k o)
-operator_passes true r o k t e = ap (λ (x : OperatorRead). decoded_as (tested (test false 6 ∷ test (is_invalid x) 7 ∷ [])) (k (or_identity x))) e
+    (p : Bool) (r : Option Operator) (o : Operator) (k : Operator → Command) → T p → r ≡ Some o →
+    decoded_as (tested (test (not p) 6 ∷ test (is_invalid r) 7 ∷ [])) (k (or_identity r)) ≡ Ok (k o)
+operator_passes true r o k t e = ap (λ (x : Option Operator). decoded_as (tested (test false 6 ∷ test (is_invalid x) 7 ∷ [])) (k (or_identity x))) e
 operator_passes false r o k t e = absurd t
 
-operator_in_lem : (o : Operator) (x y : ℕ) → T (is_operator o) → operator_at (operator_bytes o ++ (x ∷ y ∷ [])) ≡ Valid o
+operator_in_lem : (o : Operator) (x y : ℕ) → T (is_operator o) → operator_at (operator_bytes o ++ (x ∷ y ∷ [])) ≡ Some o
 unfolding little bytes
 operator_in_lem o x y t = ap (operator_of (code_of o)) (little_bytes 4 (distance_of o) (distance_fits o t)) ∙ operator_read o t
 
@@ -361,7 +358,7 @@ mark_in_lem (Has a A) t d f g = λ i. mark_with (Has a A) (depth_read t f i) (de
 mark_in_lem (Linked a r b) t d f g = λ i. mark_with (Linked a r b) (depth_read t f i) (depth_read d g i)
 
 module _ (σ : Settings) where
-  rule_decodes : (ρ : Rule) → T (is_rule ρ) → decode_body σ (kind_of ρ) (rule_body ρ) ≡ Decoded.Command (Command.Add ρ)
+  rule_decodes : (ρ : Rule) → T (is_rule ρ) → decode_body σ (kind_of ρ) (rule_body ρ) ≡ Ok (Command.Add ρ)
   unfolding bytes body_tests command_in
   rule_decodes (Label o A B) t =
       let h = and_both (is_operator o) (is_named (Label o A B)) t in
@@ -378,29 +375,29 @@ module _ (σ : Settings) where
   mark_decodes :
       (k : Mark → Command) (n : ℕ) (x : Atom) (t d : ℤ) → let b = mark_body x t d in
       decode_body σ n b ≡ decoded_as (tested (mark_tests σ (mark_in x b))) (k (mark_in x b)) → T (is_mark (mark_with x t d)) →
-      decode_body σ n b ≡ Decoded.Command (k (mark_with x t d))
+      decode_body σ n b ≡ Ok (k (mark_with x t d))
   mark_decodes k n x t d e h =
       let m : Mark = mark_with x t d in
       e
       ∙ ap (λ (y : Mark). decoded_as (tested (mark_tests σ y)) (k y)) (mark_in_lem x t d (depth_fits t (top_placed m h)) (depth_fits d (bottom_placed m h)))
       ∙ mark_passes (is_markable x) (is_placed m) (is_ordered m) (k m) h
 
-  put_decodes : (x : Atom) (t d : ℤ) → let m = mark_with x t d in T (is_mark m) → decode_body σ (put_kind x) (mark_body x t d) ≡ Decoded.Command (Command.Put m)
+  put_decodes : (x : Atom) (t d : ℤ) → let m = mark_with x t d in T (is_mark m) → decode_body σ (put_kind x) (mark_body x t d) ≡ Ok (Command.Put m)
   unfolding body_tests command_in
   put_decodes (Has a A) t d h = mark_decodes (λ (m : Mark). Command.Put m) 13 (Has a A) t d refl h
   put_decodes (Linked a r b) t d h = mark_decodes (λ (m : Mark). Command.Put m) 14 (Linked a r b) t d refl h
 
-  take_decodes : (x : Atom) (t d : ℤ) → let m = mark_with x t d in T (is_mark m) → decode_body σ (take_kind x) (mark_body x t d) ≡ Decoded.Command (Command.Take m)
+  take_decodes : (x : Atom) (t d : ℤ) → let m = mark_with x t d in T (is_mark m) → decode_body σ (take_kind x) (mark_body x t d) ≡ Ok (Command.Take m)
   unfolding body_tests command_in
   take_decodes (Has a A) t d h = mark_decodes (λ (m : Mark). Command.Take m) 15 (Has a A) t d refl h
   take_decodes (Linked a r b) t d h = mark_decodes (λ (m : Mark). Command.Take m) 16 (Linked a r b) t d refl h
 
-  count_decodes : (c : Counting) → decode_body σ 17 (counting_number c ∷ []) ≡ Decoded.Command (Command.Count c)
+  count_decodes : (c : Counting) → decode_body σ 17 (counting_number c ∷ []) ≡ Ok (Command.Count c)
   unfolding body_tests command_in
   count_decodes Old = refl
   count_decodes New = refl
 
-  hole_decodes : (t d : ℤ) → T (is_hole (Part t d)) → decode_body σ 18 (bytes_of_signed32 t ++ bytes_of_signed32 d) ≡ Decoded.Command (Command.Confine t d)
+  hole_decodes : (t d : ℤ) → T (is_hole (Part t d)) → decode_body σ 18 (bytes_of_signed32 t ++ bytes_of_signed32 d) ≡ Ok (Command.Confine t d)
   unfolding little bytes body_tests command_in
   hole_decodes t d h =
       let w = and_both (is_depth t) (is_depth d) (and_both (is_depth t && is_depth d) (le_z t d) h).0 in
@@ -409,11 +406,11 @@ module _ (σ : Settings) where
       (λ i. decoded_as (tested (hole_tests (e i) (f i))) (Command.Confine (e i) (f i)))
       ∙ hole_passes (is_depth t && is_depth d) (le_z t d) (Command.Confine t d) h
 
-  shift_decodes : (c : ℤ) → T (is_signed32 c) → decode_body σ 20 (bytes_of_signed32 c) ≡ Decoded.Command (Command.Shift c)
+  shift_decodes : (c : ℤ) → T (is_signed32 c) → decode_body σ 20 (bytes_of_signed32 c) ≡ Ok (Command.Shift c)
   unfolding little bytes body_tests command_in
-  shift_decodes c h = ap (λ z. Decoded.Command (Command.Shift z)) (depth_read c (signed_fits c h))
+  shift_decodes c h = ap (λ z. Ok (Command.Shift z)) (depth_read c (signed_fits c h))
 
-  change_decodes : (c : Command) → T (is_change c) → decode_body σ (change_kind c) (change_body c) ≡ Decoded.Command c
+  change_decodes : (c : Command) → T (is_change c) → decode_body σ (change_kind c) (change_body c) ≡ Ok c
   unfolding body_tests command_in
   change_decodes Command.Reset t = refl
   change_decodes (Command.Add ρ) t = rule_decodes ρ t
@@ -473,4 +470,4 @@ pub parse_write : (σ : Settings) (c : Command) → T (is_change c) → parse σ
 parse_write σ c t =
     let f = fitting c t in
     parse_record σ (change_kind c) (change_body c) f.allowed f.small f.short
-    ∙ ap (λ (d : Decoded). parsed_body d (change_body c) (length (write c))) (change_decodes σ c t)
+    ∙ ap (λ (d : Result Command ℕ). parsed_body d (change_body c) (length (write c))) (change_decodes σ c t)

@@ -1,18 +1,16 @@
 -- How a record is read, by its kind: the tests of each body, and the command that it says.
-use Rattle.std.specs.Prelude.{not, cond, ◌&&◌, List, [], ◌∷◌, ℕ, eqb, ℤ}
+use Rattle.std.specs.Prelude.{not, cond, ◌&&◌, List, [], ◌∷◌, ℕ, eqb, ℤ, Option, Result, Ok, Err}
 use Rattle.std.specs.Int.Signed.{le_z}
-use Rattle.terms.specs.declared.OperatorRead.{OperatorRead}
+use Rattle.terms.specs.declared.Operator.{Operator}
 use Rattle.terms.specs.declared.Rule.{Rule}
 use Rattle.terms.specs.declared.Mark.{Mark}
 use Rattle.terms.specs.declared.Question.{Question}
 use Rattle.terms.specs.declared.Settings.{Settings}
-use Rattle.terms.specs.declared.Tested.{Tested}
 use Rattle.terms.specs.Limits.{is_depth}
 use Rattle.terms.specs.Held.{is_named, is_markable, is_placed, is_ordered, is_question}
-use Rattle.refusals.specs.Refusals.{Test, test, tested}
+use Rattle.refusals.specs.Refusals.{Test, Tested, test, tested}
 use Rattle.terms.specs.Otherwise.{on_tested}
 use Rattle.records.specs.declared.Command.{Command}
-use Rattle.records.specs.declared.Decoded.{Decoded}
 use Rattle.frames.specs.declared.Framed.{Framed}
 use Rattle.frames.specs.Framing.{framed}
 use Rattle.frames.specs.Frames.{body_of}
@@ -44,7 +42,7 @@ use Rattle.records.specs.Parsed.{Parsed}
 abbrev pub named_tests : Settings → Rule → List Test
 named_tests σ ρ = test (not (is_named ρ)) 6 ∷ []
 
-abbrev pub operator_tests : Settings → OperatorRead → Rule → List Test
+abbrev pub operator_tests : Settings → Option Operator → Rule → List Test
 operator_tests σ r ρ = test (not (is_named ρ)) 6 ∷ test (is_invalid r) 7 ∷ []
 
 abbrev pub mark_tests : Settings → Mark → List Test
@@ -109,40 +107,40 @@ unfoldable pub command_in : ℕ → List ℕ → Command
 command_in k b = at_kind (λ r. r.command b) Command.Reset kinds k
 
 -- the command where no test applies
-abbrev pub decoded_as : Tested → Command → Decoded
-decoded_as t c = on_tested (Decoded.Command c) Decoded.Refused t
+abbrev pub decoded_as : Tested → Command → Result Command ℕ
+decoded_as t c = on_tested (Ok c) Err t
 
 -- the rules, marks and questions of bodies by their tests
-abbrev pub as_rule : Settings → Rule → Decoded
+abbrev pub as_rule : Settings → Rule → Result Command ℕ
 as_rule σ ρ = decoded_as (tested (named_tests σ ρ)) (Command.Add ρ)
 
-abbrev pub as_operator_rule : Settings → OperatorRead → Rule → Decoded
+abbrev pub as_operator_rule : Settings → Option Operator → Rule → Result Command ℕ
 as_operator_rule σ r ρ = decoded_as (tested (operator_tests σ r ρ)) (Command.Add ρ)
 
-abbrev pub as_put : Settings → Mark → Decoded
+abbrev pub as_put : Settings → Mark → Result Command ℕ
 as_put σ m = decoded_as (tested (mark_tests σ m)) (Command.Put m)
 
-abbrev pub as_take : Settings → Mark → Decoded
+abbrev pub as_take : Settings → Mark → Result Command ℕ
 as_take σ m = decoded_as (tested (mark_tests σ m)) (Command.Take m)
 
-abbrev pub as_counting : List ℕ → Decoded
+abbrev pub as_counting : List ℕ → Result Command ℕ
 as_counting b = decoded_as (tested (counting_tests b)) (Command.Count (counting_at b))
 
-abbrev pub as_hole : List ℕ → Decoded
+abbrev pub as_hole : List ℕ → Result Command ℕ
 as_hole b = decoded_as (tested (hole_tests (hole_top b) (hole_bottom b))) (Command.Confine (hole_top b) (hole_bottom b))
 
-abbrev pub as_question : Settings → Question → Decoded
+abbrev pub as_question : Settings → Question → Result Command ℕ
 as_question σ q = decoded_as (tested (question_tests σ q)) (Command.Ask q)
 
 -- a body of a kind of the table
-abbrev pub decode_body : Settings → ℕ → List ℕ → Decoded
+abbrev pub decode_body : Settings → ℕ → List ℕ → Result Command ℕ
 decode_body σ k b = decoded_as (tested (body_tests σ k b)) (command_in k b)
 
 -- ---- a record
 
-abbrev pub parsed_body : Decoded → List ℕ → ℕ → Parsed
-parsed_body (Decoded.Command c) b u = Parsed.Record c b u
-parsed_body (Decoded.Refused n) b u = Parsed.Refused n u
+abbrev pub parsed_body : Result Command ℕ → List ℕ → ℕ → Parsed
+parsed_body (Ok c) b u = Parsed.Record c b u
+parsed_body (Err n) b u = Parsed.Refused n u
 
 abbrev pub parsed_frame : Settings → List ℕ → Framed → Parsed
 parsed_frame σ s Framed.Nothing = Parsed.Nothing

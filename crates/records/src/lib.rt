@@ -1,14 +1,12 @@
 // Records: the table of kinds, and the decoder of each body.
 #![tactic(auto)]
 
-ghost use Rattle.std.specs.Prelude.{◌≡◌, not, [], ◌∷◌, ◌+◌, T, length};
-ghost use Rattle.terms.specs.Held.{is_named};
-ghost use Rattle.refusals.specs.Refusals.{test, tested as testedBy};
-ghost use Rattle.terms.specs.Otherwise.{or_else};
+ghost use Rattle.std.specs.Prelude.{◌≡◌, ◌+◌, T, length, Ok};
+ghost use Rattle.terms.specs.Otherwise.{by_number};
+ghost use Rattle.refusals.specs.Refusals.{tested as testedBy};
 ghost use Rattle.records.specs.declared.Command.TheVariants as To;
-ghost use Rattle.records.specs.declared.Decoded.TheVariants as Read;
 ghost use Rattle.records.specs.Records.{mark_tests, as_rule, as_operator_rule, as_put, as_take, as_counting, as_hole, as_question};
-ghost use Rattle.records.specs.Records.{decoded_as, decode_body};
+ghost use Rattle.records.specs.Records.{decode_body};
 ghost use Rattle.records.specs.Formats.{
   operator_at,
   label_rule,
@@ -26,7 +24,7 @@ ghost use Rattle.records.specs.Formats.{
 };
 ghost use Rattle.frames.specs.Frames.{allows, lengths_of};
 
-use terms::{Atom, Counting, Mark, Operator, Question, Rule, Settings, Tested};
+use terms::{Atom, Counting, Mark, Operator, Question, Refusal, Rule, Settings, require};
 
 // What a record asks for.
 #[derive(Drop)]
@@ -42,96 +40,87 @@ pub enum Command {
     Ask(Question),
 }
 
-// A body, read: a command, or the refusal's number.
-#[derive(Drop)]
-pub enum Decoded {
-    Command(Command),
-    Refused(u8),
+// A rule to add: its names under the settings.
+fn add(settings: Settings, rule: Rule) -> Result<Command, Refusal>
+    ensures { by_number result ≡ as_rule settings rule }
+{
+    require(rule.is_named(), Refusal::BadName)?;
+    Ok(Command::Add(rule))
 }
 
-// The command where no test applies.
-fn decoded_as(tested: Tested, command: Command) -> Decoded
-    ensures { result ≡ decoded_as tested command }
+// And behind them what its operator was read as.
+fn add_with(settings: Settings, read: Option<Operator>, rule: Rule) -> Result<Command, Refusal>
+    ensures { by_number result ≡ as_operator_rule settings read rule }
 {
-    match tested {
-        Tested::Passed => Decoded::Command(command),
-        Tested::Refused(number) => Decoded::Refused(number),
-    }
-}
-
-// A rule to add: its names under the settings, then what its operator came to.
-fn add(settings: Settings, rule: Rule, operator: Tested) -> Decoded
-    ensures { result ≡ decoded_as (or_else (testedBy (test (not (is_named rule)) 6 ∷ [])) operator) (To.Add rule) }
-{
-    let names = Tested::unless(rule.is_named(), 6);
-    decoded_as(names.or(operator), Command::Add(rule))
+    let command = add(settings, rule)?;
+    read.ok_or(Refusal::BadOperator)?;
+    Ok(command)
 }
 
 // The tests of a mark to put or to take.
-fn mark_tested(settings: Settings, mark: Mark) -> Tested
-    ensures { result ≡ testedBy (mark_tests settings mark) }
+fn mark_tested(settings: Settings, mark: Mark) -> Result<(), Refusal>
+    ensures { by_number result ≡ testedBy (mark_tests settings mark) }
 {
     let atom = mark.atom;
-    let names = Tested::unless(atom.is_markable(), 6);
-    let places = Tested::unless(mark.is_placed(), 8);
-    let order = Tested::unless(mark.is_ordered(), 14);
-    names.or(places.or(order))
+    require(atom.is_markable(), Refusal::BadName)?;
+    require(mark.is_placed(), Refusal::BadDepth)?;
+    require(mark.is_ordered(), Refusal::EndsReversed)
 }
 
-fn put(settings: Settings, mark: Mark) -> Decoded
-    ensures { result ≡ as_put settings mark }
+fn put(settings: Settings, mark: Mark) -> Result<Command, Refusal>
+    ensures { by_number result ≡ as_put settings mark }
 {
-    decoded_as(mark_tested(settings, mark), Command::Put(mark))
+    mark_tested(settings, mark)?;
+    Ok(Command::Put(mark))
 }
 
-fn take(settings: Settings, mark: Mark) -> Decoded
-    ensures { result ≡ as_take settings mark }
+fn take(settings: Settings, mark: Mark) -> Result<Command, Refusal>
+    ensures { by_number result ≡ as_take settings mark }
 {
-    decoded_as(mark_tested(settings, mark), Command::Take(mark))
+    mark_tested(settings, mark)?;
+    Ok(Command::Take(mark))
 }
 
 // A question; the span call beside the records uses it too.
-pub fn ask(settings: Settings, question: Question) -> Decoded
-    ensures { result ≡ as_question settings question }
+pub fn ask(settings: Settings, question: Question) -> Result<Command, Refusal>
+    ensures { by_number result ≡ as_question settings question }
 {
-    decoded_as(
-        Tested::unless(question.in_range(), 6),
-        Command::Ask(question),
-    )
+    require(question.in_range(), Refusal::BadName)?;
+    Ok(Command::Ask(question))
 }
 
-fn label_rule(settings: Settings, body: &[u8]) -> Decoded
+fn label_rule(settings: Settings, body: &[u8]) -> Result<Command, Refusal>
     requires { length body.now ≡ 7 }
-    ensures { result ≡ as_operator_rule settings (operator_at body.now) (label_rule body.now) }
+    ensures { by_number result ≡ as_operator_rule settings (operator_at body.now) (label_rule body.now) }
 {
     let read = Operator::new(body[0], codec::u32_at(body, 1));
-    let rule = Rule::Label(read.or_identity(), body[5], body[6]);
-    add(settings, rule, read.tested())
+    let rule = Rule::Label(read.unwrap_or(Operator::WITHIN_1), body[5], body[6]);
+    add_with(settings, read, rule)
 }
 
-fn both_rule(settings: Settings, body: &[u8]) -> Decoded
+fn both_rule(settings: Settings, body: &[u8]) -> Result<Command, Refusal>
     requires { length body.now ≡ 3 }
-    ensures { result ≡ as_rule settings (both_rule body.now) }
+    ensures { by_number result ≡ as_rule settings (both_rule body.now) }
 {
     let rule = Rule::Both(body[0], body[1], body[2]);
-    add(settings, rule, Tested::Passed)
+    add(settings, rule)
 }
 
-fn link_rule(settings: Settings, body: &[u8]) -> Decoded
+fn link_rule(settings: Settings, body: &[u8]) -> Result<Command, Refusal>
     requires { length body.now ≡ 7 }
-    ensures { result ≡ as_operator_rule settings (operator_at body.now) (link_rule body.now) }
+    ensures { by_number result ≡ as_operator_rule settings (operator_at body.now) (link_rule body.now) }
 {
     let read = Operator::new(body[0], codec::u32_at(body, 1));
-    let rule = Rule::Link(read.or_identity(), body[5], body[6]);
-    add(settings, rule, read.tested())
+    let rule = Rule::Link(read.unwrap_or(Operator::WITHIN_1), body[5], body[6]);
+    add_with(settings, read, rule)
 }
 
-fn via_rule(settings: Settings, body: &[u8]) -> Decoded
+fn via_rule(settings: Settings, body: &[u8]) -> Result<Command, Refusal>
     requires { length body.now ≡ 3 }
-    ensures { result ≡ as_rule settings (via_rule body.now) }
+    ensures { by_number result ≡ as_rule settings (via_rule body.now) }
 {
     let rule = Rule::Via(body[0], body[1], body[2]);
-    add(settings, rule, Tested::Passed)
+    add(settings, rule)
 }
 
 // A mark of the kinds with one depth: it is both ends.
@@ -182,69 +171,70 @@ fn link_stretch(body: &[u8]) -> Mark
     }
 }
 
-fn ask_label(settings: Settings, body: &[u8]) -> Decoded
+fn ask_label(settings: Settings, body: &[u8]) -> Result<Command, Refusal>
     requires { length body.now ≡ 10 }
-    ensures { result ≡ as_question settings (label_question body.now) }
+    ensures { by_number result ≡ as_question settings (label_question body.now) }
 {
     let atom = Atom::Has(body[0], body[1]);
     ask(settings, Question::Holds(atom, codec::i64_at(body, 2)))
 }
 
-fn ask_link(settings: Settings, body: &[u8]) -> Decoded
+fn ask_link(settings: Settings, body: &[u8]) -> Result<Command, Refusal>
     requires { length body.now ≡ 11 }
-    ensures { result ≡ as_question settings (link_question body.now) }
+    ensures { by_number result ≡ as_question settings (link_question body.now) }
 {
     let atom = Atom::Linked(body[0], body[1], body[2]);
     ask(settings, Question::Holds(atom, codec::i64_at(body, 3)))
 }
 
-fn ask_spans(settings: Settings, body: &[u8]) -> Decoded
+fn ask_spans(settings: Settings, body: &[u8]) -> Result<Command, Refusal>
     requires { length body.now ≡ 2 }
-    ensures { result ≡ as_question settings (spans_question body.now) }
+    ensures { by_number result ≡ as_question settings (spans_question body.now) }
 {
     ask(settings, Question::Spans(body[0], body[1]))
 }
 
 // The number of a counting.
-fn count(body: &[u8]) -> Decoded
+fn count(body: &[u8]) -> Result<Command, Refusal>
     requires { length body.now ≡ 1 }
-    ensures { result ≡ as_counting body.now }
+    ensures { by_number result ≡ as_counting body.now }
 {
     let number = body[0];
-    decoded_as(
-        Tested::unless(terms::is_counting(number), 7),
-        Command::Count(Counting::of(number)),
-    )
+    require(terms::is_counting(number), Refusal::BadOperator)?;
+    Ok(Command::Count(Counting::of(number)))
 }
 
 // The two ends of a hole.
-fn confine(body: &[u8]) -> Decoded
+fn confine(body: &[u8]) -> Result<Command, Refusal>
     requires { length body.now ≡ 8 }
-    ensures { result ≡ as_hole body.now }
+    ensures { by_number result ≡ as_hole body.now }
 {
     let top = codec::i32_at(body, 0);
     let bottom = codec::i32_at(body, 4);
-    let places = Tested::unless(terms::is_depth(top) & terms::is_depth(bottom), 8);
-    let order = Tested::unless(top <= bottom, 14);
-    decoded_as(places.or(order), Command::Confine(top, bottom))
+    require(
+        terms::is_depth(top) & terms::is_depth(bottom),
+        Refusal::BadDepth,
+    )?;
+    require(top <= bottom, Refusal::EndsReversed)?;
+    Ok(Command::Confine(top, bottom))
 }
 
 // The amount of a shift. Whether a depth leaves its range by it, what is held decides.
-fn shift(body: &[u8]) -> Decoded
+fn shift(body: &[u8]) -> Result<Command, Refusal>
     requires { length body.now ≡ 4 }
-    ensures { result ≡ Read.Command (To.Shift (shift_at body.now)) }
+    ensures { by_number result ≡ Ok (To.Shift (shift_at body.now)) }
 {
-    Decoded::Command(Command::Shift(codec::i32_at(body, 0)))
+    Ok(Command::Shift(codec::i32_at(body, 0)))
 }
 
 // The table of kinds: decoders. The frame lets no other kind come here.
 #[tactic(auto, unfolding(frames::specs::Frames::lengths_of, crate::specs::Records::body_tests, crate::specs::Records::command_in))]
-pub fn decode_body(settings: Settings, kind: u16, body: &[u8]) -> Decoded
+pub fn decode_body(settings: Settings, kind: u16, body: &[u8]) -> Result<Command, Refusal>
     requires { T (allows (lengths_of kind) (length body.now + 2)) }
-    ensures { result ≡ decode_body settings kind body.now }
+    ensures { by_number result ≡ decode_body settings kind body.now }
 {
     match kind {
-        1 => Decoded::Command(Command::Reset),
+        1 => Ok(Command::Reset),
         2 => label_rule(settings, body),
         3 => both_rule(settings, body),
         4 => link_rule(settings, body),
@@ -263,7 +253,7 @@ pub fn decode_body(settings: Settings, kind: u16, body: &[u8]) -> Decoded
         17 => count(body),
         18 => confine(body),
         20 => shift(body),
-        21 => Decoded::Command(Command::Restrict),
-        _ => Decoded::Refused(4),
+        21 => Ok(Command::Restrict),
+        _ => Err(Refusal::UnknownKind),
     }
 }

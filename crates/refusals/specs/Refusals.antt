@@ -1,6 +1,5 @@
 -- The order of 01's refusals, rows of its table as tests, and what a list of tests comes to.
-use Rattle.std.specs.Prelude.{Bool, cond, List, [], ◌∷◌, ℕ, suc, eqb}
-use Rattle.terms.specs.declared.Tested.{Tested}
+use Rattle.std.specs.Prelude.{Bool, cond, List, [], ◌∷◌, ℕ, suc, eqb, Result, Ok, Err}
 
 -- 01, Where a record is turned away: the numbers in the order in which they are judged, with 02's where 02 puts them
 abbrev pub order : List ℕ
@@ -22,7 +21,11 @@ pub record Test : Type 0 where
 abbrev pub test : Bool → ℕ → Test
 test b n = record { applies = b; number = n }
 
+-- what tests come to: none applies, or the number of the first that does
+abbrev pub Tested : Type 0
+Tested = Result (Unit {0}) ℕ
+
 -- 01, Where a record is turned away: the lowest number that applies, by rank, which is the first, since the rows ascend
 abbrev pub tested : List Test → Tested
-tested [] = Tested.Passed
-tested (t ∷ ts) = cond t.applies (Tested.Refused t.number) (tested ts)
+tested [] = Ok tt
+tested (t ∷ ts) = cond t.applies (Err t.number) (tested ts)

@@ -78,3 +78,10 @@ pub record KeyOf {X : Type 0} (key : X → ℕ) (P : X → Type 0) (x : X) (k : 
 pub record KeysOf {X : Type 0} (key : X → ℕ) (P : X → Type 0) (xs : List X) (ks : List ℕ) : Type 0 where
   pub are : ks ≡ map key xs
   pub fit : All P xs
+
+-- each number is one that R gives for the element at its place
+unfoldable pub Paired : {X : Type 0} → (X → ℕ → Type 0) → List X → List ℕ → Type 0
+Paired R [] [] = Unit {0}
+Paired R [] (k ∷ ks) = ⊥
+Paired R (x ∷ xs) [] = ⊥
+Paired R (x ∷ xs) (k ∷ ks) = R x k × Paired R xs ks

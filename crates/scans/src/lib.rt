@@ -1,17 +1,17 @@
-// Scans of the rules and marks in their places, by keys.
+// Scans of rules and marks, by keys.
 #![tactic(auto)]
 
-ghost use Rattle.std.specs.Prelude.{◌≡◌, ◌*◌, ◌≤◌, T, take};
+ghost use Rattle.std.specs.Prelude.{◌≡◌, ◌*◌, ◌≤◌, T, length, take};
 ghost use Rattle.terms.specs.Holes.{lies_in};
 ghost use Rattle.terms.specs.Profiles.{admits};
 ghost use Rattle.terms.specs.Held.{is_rule, is_mark, ends_of};
-ghost use Rattle.terms.specs.Places.{rules_in, MarksNamed};
+ghost use Rattle.terms.specs.Places.{MarksNamed};
 ghost use Rattle.terms.specs.Same.{same_rule, same_mark};
 ghost use Rattle.terms.specs.Lists.{some, every, once, depth_count};
-ghost use Rattle.keys.specs.Search.{index_of};
-ghost use Rattle.scans.specs.Keys.{packed_fields, rule_key, mark_key, depth_key, atom_number, end_number, ByteRule, MarkFits, DepthFits, KeyOf, KeysOf};
+ghost use Rattle.keys.specs.Search.{position_of};
+ghost use Rattle.scans.specs.Keys.{packed_fields, rule_key, mark_key, depth_key, atom_number, end_number, ByteRule, DepthFits, KeyOf, KeysOf, Paired};
 
-use terms::{Atom, Hole, Mark, Profile, Rule, RulePlace};
+use terms::{Atom, Hole, MARKS, Mark, Profile, RULES, Rule};
 
 // Room for atoms and for ends in a mark's key.
 const ATOM_ROOM: u64 = 4_096;
@@ -22,8 +22,10 @@ const END_ROOM: u64 = 262_144;
 fn pack(tag: u8, first: u8, second: u8, third: u8, n: u32) -> u64
     ensures { result ≡ packed_fields tag first second third n }
 {
-    tag as u64
-        + 256 * (first as u64 + 256 * (second as u64 + 256 * (third as u64 + 256 * (n as u64))))
+    u64::from(tag)
+        + 256
+            * (u64::from(first)
+                + 256 * (u64::from(second) + 256 * (u64::from(third) + 256 * u64::from(n))))
 }
 
 // A rule as one number: a slice of numbers can be lent to the searches, and one comparison tells two rules apart.
@@ -43,9 +45,9 @@ fn atom_number(atom: Atom) -> u16
     ensures { result ≡ atom_number atom }
 {
     match atom {
-        Atom::Has(item, label) => item as u16 + 16 * (label as u16),
+        Atom::Has(item, label) => u16::from(item) + 16 * u16::from(label),
         Atom::Linked(from, kind, to) => {
-            1_024 + (from as u16 + 16 * (kind as u16 + 8 * (to as u16)))
+            1_024 + (u16::from(from) + 16 * (u16::from(kind) + 8 * u16::from(to)))
         }
     }
 }
@@ -54,162 +56,114 @@ fn atom_number(atom: Atom) -> u16
 fn end_number(depth: i32) -> u64
     ensures { result ≡ end_number depth }
 {
-    codec::bits32(depth) as u64 % END_ROOM
+    u64::from(codec::bits32(depth)) % END_ROOM
 }
 
 // A mark as one number.
 fn mark_key(mark: Mark) -> u64
-    requires { T (is_mark mark) }
-    ensures { KeyOf mark_key MarkFits mark result }
+    ensures { result ≡ mark_key mark }
 {
-    let atom = mark.atom;
-    let number = atom_number(atom) as u64;
-    let top = end_number(mark.top);
-    let bottom = end_number(mark.bottom);
-    number + ATOM_ROOM * (top + END_ROOM * bottom)
+    let number = u64::from(atom_number(mark.atom));
+    number + ATOM_ROOM * (end_number(mark.top) + END_ROOM * end_number(mark.bottom))
 }
 
 // A depth as one number, whatever it is.
 fn depth_key(depth: i32) -> u64
     ensures { KeyOf depth_key DepthFits depth result }
 {
-    codec::bits32(depth) as u64
+    u64::from(codec::bits32(depth))
 }
 
-// The keys of the first places.
-fn rule_keys(places: [RulePlace; 128], count: usize) -> [u64; 128]
-    requires { count ≤ 128 }
-    ensures { KeysOf rule_key ByteRule (rules_in places count) (take count result) }
+// The keys of the items, from the front.
+fn keys_of<T: Copy, F: Fn(T) -> u64>(items: &[T], keys: &mut [u64], key: F)
+    requires room { length items.now ≤ length keys.old }
+    requires callable { F.IsAlwaysCallable key }
+    ensures { Paired (λ x k. F.post key x k) items.now (take (length items.now) keys.new) }
 {
-    let mut keys = [0u64; 128];
-    for i in 0..count {
-        let found = places[i];
-        let rule = found.rule;
-        keys[i] = rule_key(rule);
+    for (i, item) in items.iter().enumerate() {
+        keys[i] = key(*item);
     }
-    keys
-}
-
-fn mark_keys(marks: [Mark; 256], count: usize) -> [u64; 256]
-    requires { MarksNamed marks count }
-    ensures { KeysOf mark_key MarkFits (take count marks) (take count result) }
-{
-    let mut keys = [0u64; 256];
-    for i in 0..count {
-        let mark = marks[i];
-        keys[i] = mark_key(mark);
-    }
-    keys
 }
 
 // The keys of both ends of each mark, the top before the bottom.
-fn depth_keys(marks: [Mark; 256], count: usize) -> [u64; 512]
-    requires { count ≤ 256 }
-    ensures { KeysOf depth_key DepthFits (ends_of (take count marks)) (take (2 * count) result) }
+fn depth_keys(marks: &[Mark]) -> [u64; 2 * MARKS]
+    requires { length marks.now ≤ 256 }
+    ensures { KeysOf depth_key DepthFits (ends_of marks.now) (take (2 * length marks.now) result) }
 {
-    let mut keys = [0u64; 512];
-    for i in 0..count {
-        let mark = marks[i];
+    let mut keys = [0; 2 * MARKS];
+    for (i, mark) in marks.iter().enumerate() {
         keys[2 * i] = depth_key(mark.top);
         keys[2 * i + 1] = depth_key(mark.bottom);
     }
     keys
 }
 
-pub fn has_rule(places: [RulePlace; 128], count: usize, rule: Rule) -> bool
-    requires { count ≤ 128 }
-    ensures { result ≡ some (same_rule rule) (rules_in places count) }
+pub fn has_rule(rules: &[Rule], rule: Rule) -> bool
+    ensures { result ≡ some (same_rule rule) rules.now }
 {
-    let keys = rule_keys(places, count);
     let key = rule_key(rule);
-    keys::is_behind(&keys[..count], 0, key)
+    rules.iter().any(|held| key == rule_key(*held))
 }
 
-// The place of the same mark, `count` where there is none.
-pub fn mark_index(marks: [Mark; 256], count: usize, mark: Mark) -> usize
-    requires marks_named { MarksNamed marks count }
+// The place of the same mark.
+pub fn mark_index(marks: &[Mark], mark: Mark) -> Option<usize>
+    requires marks_named { MarksNamed marks.now }
     requires t { T (is_mark mark) }
-    ensures { result ≡ index_of (same_mark mark) (take count marks) }
+    ensures { result ≡ position_of (same_mark mark) marks.now }
 {
-    let keys = mark_keys(marks, count);
     let key = mark_key(mark);
-    keys::first(&keys[..count], 0, key)
+    marks.iter().position(|held| key == mark_key(*held))
 }
 
 // How many depths are an end of some mark.
-pub fn depth_count(marks: [Mark; 256], count: usize) -> usize
-    requires { count ≤ 256 }
-    ensures { result ≡ depth_count (ends_of (take count marks)) }
+pub fn depth_count(marks: &[Mark]) -> usize
+    requires { length marks.now ≤ 256 }
+    ensures { result ≡ depth_count (ends_of marks.now) }
 {
-    let keys = depth_keys(marks, count);
-    let ends = 2 * count;
-    keys::distinct_keys(&keys[..ends])
+    let keys = depth_keys(marks);
+    keys::distinct_keys(&keys[..2 * marks.len()])
 }
 
-pub fn rules_once(places: [RulePlace; 128], count: usize) -> bool
-    requires { count ≤ 128 }
-    ensures { result ≡ once same_rule (rules_in places count) }
+pub fn rules_once(rules: &[Rule]) -> bool
+    requires { length rules.now ≤ 128 }
+    ensures { result ≡ once same_rule rules.now }
 {
-    let keys = rule_keys(places, count);
-    keys::once_keys(&keys[..count])
+    let mut keys = [0; RULES];
+    keys_of(rules, &mut keys, rule_key);
+    keys::once_keys(&keys[..rules.len()])
 }
 
-pub fn marks_once(marks: [Mark; 256], count: usize) -> bool
-    requires { MarksNamed marks count }
-    ensures { result ≡ once same_mark (take count marks) }
+pub fn marks_once(marks: &[Mark]) -> bool
+    requires { MarksNamed marks.now }
+    ensures { result ≡ once same_mark marks.now }
 {
-    let keys = mark_keys(marks, count);
-    keys::once_keys(&keys[..count])
+    let mut keys = [0; MARKS];
+    keys_of(marks, &mut keys, mark_key);
+    keys::once_keys(&keys[..marks.len()])
 }
 
-pub fn rules_in_range(places: [RulePlace; 128], count: usize) -> bool
-    requires { count ≤ 128 }
-    ensures { result ≡ every is_rule (rules_in places count) }
+pub fn rules_in_range(rules: &[Rule]) -> bool
+    ensures { result ≡ every is_rule rules.now }
 {
-    let mut all = true;
-    for i in 0..count {
-        let found = places[i];
-        let rule = found.rule;
-        all = all & rule.in_range();
-    }
-    all
+    rules.iter().all(|rule| rule.in_range())
 }
 
-pub fn marks_in_range(marks: [Mark; 256], count: usize) -> bool
-    requires { count ≤ 256 }
-    ensures { result ≡ every is_mark (take count marks) }
+pub fn marks_in_range(marks: &[Mark]) -> bool
+    ensures { result ≡ every is_mark marks.now }
 {
-    let mut all = true;
-    for i in 0..count {
-        let mark = marks[i];
-        all = all & mark.in_range();
-    }
-    all
+    marks.iter().all(|mark| mark.in_range())
 }
 
 // Each may be held under the profile.
-pub fn rules_admitted(places: [RulePlace; 128], count: usize, profile: Profile) -> bool
-    requires { count ≤ 128 }
-    ensures { result ≡ every (admits profile) (rules_in places count) }
+pub fn rules_admitted(rules: &[Rule], profile: Profile) -> bool
+    ensures { result ≡ every (admits profile) rules.now }
 {
-    let mut all = true;
-    for i in 0..count {
-        let found = places[i];
-        let rule = found.rule;
-        all = all & profile::admits(profile, rule);
-    }
-    all
+    rules.iter().all(|rule| profile::admits(profile, *rule))
 }
 
 // None reaches outside the hole.
-pub fn marks_inside(marks: [Mark; 256], count: usize, hole: Hole) -> bool
-    requires { count ≤ 256 }
-    ensures { result ≡ every (lies_in hole) (take count marks) }
+pub fn marks_inside(marks: &[Mark], hole: Hole) -> bool
+    ensures { result ≡ every (lies_in hole) marks.now }
 {
-    let mut all = true;
-    for i in 0..count {
-        let mark = marks[i];
-        all = all & mark.lies_in(hole);
-    }
-    all
+    marks.iter().all(|mark| mark.lies_in(hole))
 }

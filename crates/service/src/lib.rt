@@ -2,6 +2,8 @@
 #![tactic(auto)]
 
 ghost use Rattle.std.specs.Prelude.{◌≡◌, [], length, drop};
+ghost use Rattle.terms.specs.declared.Answer.TheVariants as Answer;
+ghost use Rattle.terms.specs.Refusals.{number_of_refusal};
 ghost use Rattle.state.specs.State.{held_of};
 ghost use Rattle.records.specs.Records.{as_question, parsed_body};
 ghost use Rattle.questions.specs.Code.{HeldState};
@@ -10,21 +12,13 @@ ghost use Rattle.commands.specs.Buffers.{lent, is_short_or, after_of};
 ghost use Rattle.commands.specs.Code.{Enough};
 ghost use Rattle.service.specs.Tables.{tables, after_charge};
 ghost use Rattle.service.specs.Charging.{charge_call};
-ghost use Rattle.service.specs.Code.{LentAs};
+ghost use Rattle.service.specs.Code.{LentAs, ToChargeAs};
 
 use charges::Charge;
 use commands::Reply;
 use reader::Input;
-use records::Decoded;
 use state::State;
-use terms::{Answer, Question, Tested};
-
-// What the tests of lent memory came to, and the state that its block holds where they pass. (A state holds arrays, so it stands beside the enum.)
-#[derive(Drop)]
-pub struct Lent {
-    pub tested: Tested,
-    pub state: State,
-}
+use terms::{Answer, Question, Refusal};
 
 // Whether block or a table is too short, or what else is lent to a call.
 fn is_short(other: bool, block: usize, labels: usize, links: usize) -> bool
@@ -42,21 +36,23 @@ fn is_short(other: bool, block: usize, labels: usize, links: usize) -> bool
     other
 }
 
-// Lent memory, which every call is judged by first; `other` says whether what else is lent to the call is too short.
-fn lent_state(other: bool, block: &[u8], labels: usize, links: usize) -> Lent
+// Lent memory, which every call is judged by first, and the state that its block holds; `other` says whether what else is lent to the call is too short.
+fn lent_state(other: bool, block: &[u8], labels: usize, links: usize) -> Result<State, Refusal>
     ensures { LentAs other block.now labels links result }
 {
     if is_short(other, block.len(), labels, links) {
-        return Lent {
-            tested: Tested::Refused(1),
-            state: State::empty(),
-        };
+        return Err(Refusal::ShortMemory);
     }
-    let loaded = block::load(block);
-    let state = loaded.state;
-    Lent {
-        tested: Tested::unless(loaded.good, 2),
-        state,
+    block::load(block).ok_or(Refusal::BadBlock)
+}
+
+// A call that is refused before a record was read: no bytes are used.
+fn refused(refusal: Refusal) -> Reply
+    ensures { (result.answer ≡ Answer.Refused (number_of_refusal refusal)) × (result.used ≡ 0) }
+{
+    Reply {
+        answer: Answer::from(refusal),
+        used: 0,
     }
 }
 
@@ -73,29 +69,31 @@ pub fn record_at(
         ≡ call (lent block.old labels.old links.old spans.old) (drop at input.now) }
 {
     let few_spans = spans.len() < terms::SPAN_NUMBERS;
-    let found = lent_state(few_spans, block, labels.len(), links.len());
-    let tested = found.tested;
-    let state = found.state;
-    let settings = state.settings;
-    match tested {
-        Tested::Refused(number) => commands::refused(number, 0),
-        Tested::Passed => match reader::parse(settings, input, at) {
-            Input::Nothing => Reply {
-                answer: Answer::End,
-                used: 0,
-            },
-            Input::Refused(number, used) => commands::refused(number, used),
-            Input::Record(command, used) => commands::work(
-                command,
-                &input[at + 4..at + used],
-                state,
-                block,
-                labels,
-                links,
-                spans,
-                used,
-            ),
-        },
+    match lent_state(few_spans, block, labels.len(), links.len()) {
+        Err(refusal) => refused(refusal),
+        Ok(state) => {
+            let settings = state.settings;
+            match reader::parse(settings, input, at) {
+                Input::Nothing => Reply {
+                    answer: Answer::End,
+                    used: 0,
+                },
+                Input::Refused(number, used) => {
+                    let answer = Answer::Refused(number);
+                    Reply { answer, used }
+                }
+                Input::Record(command, used) => commands::work(
+                    command,
+                    &input[at + 4..at + used],
+                    state,
+                    block,
+                    labels,
+                    links,
+                    spans,
+                    used,
+                ),
+            }
+        }
     }
 }
 
@@ -129,11 +127,11 @@ fn aside(
 {
     let settings = state.settings;
     match records::ask(settings, question) {
-        Decoded::Command(_) => {
-            let answer = questions::answer(state, labels, links, spans, question);
+        Ok(_) => {
+            let answer = questions::answer(&state, labels, links, spans, question);
             Reply { answer, used: 0 }
         }
-        Decoded::Refused(number) => commands::refused(number, 0),
+        Err(unasked) => refused(unasked),
     }
 }
 
@@ -150,11 +148,8 @@ pub fn spans_of(
         ≡ span_call (lent block.now labels.old links.old spans.old) item label }
 {
     let few_spans = spans.len() < terms::SPAN_NUMBERS;
-    let found = lent_state(few_spans, block, labels.len(), links.len());
-    let tested = found.tested;
-    let state = found.state;
-    match tested {
-        Tested::Passed => aside(
+    match lent_state(few_spans, block, labels.len(), links.len()) {
+        Ok(state) => aside(
             state,
             block,
             labels,
@@ -162,8 +157,24 @@ pub fn spans_of(
             spans,
             Question::Spans(item, label),
         ),
-        Tested::Refused(number) => commands::refused(number, 0),
+        Err(refusal) => refused(refusal),
     }
+}
+
+// The state that a charge goes by: lent memory first, then item and lines.
+fn to_charge(
+    block: &[u8],
+    labels: usize,
+    links: usize,
+    lines: &[u32],
+    item: u32,
+) -> Result<State, Refusal>
+    ensures { ToChargeAs block.now labels links item lines.now result }
+{
+    let inside_line = lines.len() % 3 != 0;
+    let state = lent_state(inside_line, block, labels, links)?;
+    charges::judged(item, lines)?;
+    Ok(state)
 }
 
 // The charge of an item by price lines, three numbers each, asked beside the records: the block is read alone, and no span is kept.
@@ -177,12 +188,8 @@ pub fn charge(
     ensures { after_charge result (tables block.now labels.new links.new)
         ≡ charge_call (tables block.now labels.old links.old) item lines.now }
 {
-    let inside_line = lines.len() % 3 != 0;
-    let found = lent_state(inside_line, block, labels.len(), links.len());
-    let tested = found.tested;
-    let state = found.state;
-    match tested.or(charges::judged(item, lines)) {
-        Tested::Passed => charging::bill(state, labels, links, item as u8, lines),
-        Tested::Refused(number) => Charge::Refused(number),
+    match to_charge(block, labels.len(), links.len(), lines, item) {
+        Ok(state) => charging::bill(&state, labels, links, item as u8, lines),
+        Err(refusal) => Charge::from(refusal),
     }
 }

@@ -1,18 +1,18 @@
 // 02's cable zero: depths, marks and the hole moved by the same amount, and whether they stay in their range.
 #![tactic(auto)]
 
-ghost use Rattle.std.specs.Prelude.{◌≡◌, map, ◌≤◌, T, take};
+ghost use Rattle.std.specs.Prelude.{◌≡◌, map, T};
 ghost use Rattle.terms.specs.Limits.{is_depth};
 ghost use Rattle.terms.specs.Lists.{every};
 ghost use Rattle.shift.specs.Shifted.{by, shift_mark, shift_hole, mark_stays, hole_stays};
 
-use terms::{DEEPEST, Hole, MARKS, Mark, SHALLOWEST};
+use terms::{DEEPEST, Hole, Mark, SHALLOWEST};
 
 // The exact sum: that of two numbers of 32 bits fits 64.
 fn moved(depth: i32, shift: i32) -> i64
     ensures { result ≡ by shift depth }
 {
-    depth as i64 + shift as i64
+    i64::from(depth) + i64::from(shift)
 }
 
 // The moved depth lies where marks lie.
@@ -41,9 +41,8 @@ fn mark_shifted(mark: Mark, shift: i32) -> Mark
     requires { T (mark_stays shift mark) }
     ensures { result ≡ shift_mark shift mark }
 {
-    let atom = mark.atom;
     Mark {
-        atom,
+        atom: mark.atom,
         top: depth_shifted(mark.top, shift),
         bottom: depth_shifted(mark.bottom, shift),
     }
@@ -70,29 +69,19 @@ pub fn hole_shifted(hole: Hole, shift: i32) -> Hole
     }
 }
 
-// All of the first places stay.
-pub fn marks_stay(marks: [Mark; MARKS], count: usize, shift: i32) -> bool
-    requires { count ≤ 256 }
-    ensures { result ≡ every (mark_stays shift) (take count marks) }
+// All of them stay.
+pub fn marks_stay(marks: &[Mark], shift: i32) -> bool
+    ensures { result ≡ every (mark_stays shift) marks.now }
 {
-    let mut all = true;
-    for i in 0..count {
-        let mark = marks[i];
-        all = all & mark_stays(mark, shift);
-    }
-    all
+    marks.iter().all(|mark| mark_stays(*mark, shift))
 }
 
-// The first places, moved, each where it was.
-pub fn marks_shifted(marks: [Mark; MARKS], count: usize, shift: i32) -> [Mark; MARKS]
-    requires count_bound { count ≤ 256 }
-    requires t { T (every (mark_stays shift) (take count marks)) }
-    ensures { take count result ≡ map (shift_mark shift) (take count marks) }
+// The marks, moved, each where it was.
+pub fn shift_marks(marks: &mut [Mark], shift: i32)
+    requires { T (every (mark_stays shift) marks.old) }
+    ensures { marks.new ≡ map (shift_mark shift) marks.old }
 {
-    let mut shifted = marks;
-    for place in 0..count {
-        let mark = marks[place];
-        shifted[place] = mark_shifted(mark, shift);
+    for mark in marks {
+        *mark = mark_shifted(*mark, shift);
     }
-    shifted
 }

@@ -1,5 +1,5 @@
 -- 02, Slip 3: after each interval of the walk the buffer holds exactly the spans that ended before it, and is as lent behind them. Assumes nothing.
-use Rattle.std.specs.Prelude.{◌≡◌, refl, Bool, true, false, List, [], ◌∷◌, ◌++◌, ℕ, zero, suc, pred, ◌+◌, ◌-◌, ◌≤◌, ◌<◌, T, ℤ, ◌≤ℤ◌, ◌<ℤ◌, length, drop}
+use Rattle.std.specs.Prelude.{Option, None, Some, ◌≡◌, refl, Bool, true, false, List, [], ◌∷◌, ◌++◌, ℕ, zero, suc, pred, ◌+◌, ◌-◌, ◌≤◌, ◌<◌, T, ℤ, ◌≤ℤ◌, ◌<ℤ◌, length, drop}
 use Rattle.std.proofs.Common.{sym, ap, ◌∙◌, subst, ⊎_elim, append-nil, arith}
 use mathlib.Core.List.Memᴰ
 use Rattle.terms.specs.declared.Hole.{Hole}
@@ -19,8 +19,8 @@ use Rattle.line.specs.Intervals.{cuts_of, interval, count}
 use Rattle.line.proofs.IntervalLaws.{pieces}
 use Rattle.spans.specs.declared.Progress.{Progress}
 use Rattle.spans.specs.Ended.{SpansWritten, EndedBefore, AfterInterval}
-use Rattle.spans.specs.Runs.{Begun, outside, since, stretch_of, runs_from, runs}
-use Rattle.spans.specs.Code.{begun_in, Earlier, ended_at, Walked, none, next}
+use Rattle.spans.specs.Runs.{stretch_of, runs_from, runs}
+use Rattle.spans.specs.Code.{Earlier, ended_at, Walked, none, next}
 use Rattle.spans.proofs.Walks.{WrittenSoFar, none_written, written_next}
 use Rattle.spans.proofs.Longest.{longest_one, ordered_in, own, at_cut, of_above, block_covers, block_ordered, tops_rise, block_order, runs_longest}
 
@@ -82,10 +82,10 @@ module _ (line : Run) (proper : Ordered line) (cs : List ℤ) (rising : Asc cs) 
   bottom_above zero h l = let z : ⊥ = omega arith in absurd z
   bottom_above (suc p) h l = omega (ints, at_cut line proper cs rising ranged p l, pred_is (nth cs p))
 
-  ended_above : (p : ℕ) (h : Bool) (g : Begun) → p ≤ length cs → Earlier g p → (r : Run) → r ∈ ended_at line cs p h g → r.bottom <ℤ top p
+  ended_above : (p : ℕ) (h : Bool) (g : Option ℕ) → p ≤ length cs → Earlier g p → (r : Run) → r ∈ ended_at line cs p h g → r.bottom <ℤ top p
   ended_above p true g l s r m = absurd (Memᴰ.not-nil m)
-  ended_above p false outside l s r m = absurd (Memᴰ.not-nil m)
-  ended_above p false (since a) l s r m = subst (λ x. x.bottom <ℤ top p) (sym (Memᴰ.eq_of_singleton m)) (bottom_above p (omega arith) l)
+  ended_above p false None l s r m = absurd (Memᴰ.not-nil m)
+  ended_above p false (Some a) l s r m = subst (λ x. x.bottom <ℤ top p) (sym (Memᴰ.eq_of_singleton m)) (bottom_above p (omega arith) l)
 
   -- these spans have their bottoms in the interval that was passed last, or below
   abbrev Below : ℕ → List Run → Type 0
@@ -104,17 +104,17 @@ module _ (line : Run) (proper : Ordered line) (cs : List ℤ) (rising : Asc cs) 
       ⊎_elim (λ e. subst (λ x. top (pred p) ≤ℤ x.bottom) (sym e) o) (λ n. f r n) (Memᴰ.cases_cons m)
 
   module _ (has : ℕ → Bool) where
-    left_below : (n p : ℕ) (g : Begun) → p + n ≡ suc (length cs) → Earlier g p → Below p (runs_from line cs has n p g)
-    left_below zero p outside h s = λ r m. absurd (Memᴰ.not-nil m)
-    left_below zero p (since a) h s = open_below a p [] (omega arith) s (λ r m. absurd (Memᴰ.not-nil m))
-    left_below (suc n) p outside h s =
+    left_below : (n p : ℕ) (g : Option ℕ) → p + n ≡ suc (length cs) → Earlier g p → Below p (runs_from line cs has n p g)
+    left_below zero p None h s = λ r m. absurd (Memᴰ.not-nil m)
+    left_below zero p (Some a) h s = open_below a p [] (omega arith) s (λ r m. absurd (Memᴰ.not-nil m))
+    left_below (suc n) p None h s =
         either_below p (has p) _ _
-        (below_next p _ (omega arith) (left_below n (suc p) (since p) (omega arith) (omega arith)))
-        (below_next p _ (omega arith) (left_below n (suc p) outside (omega arith) tt))
-    left_below (suc n) p (since a) h s =
+        (below_next p _ (omega arith) (left_below n (suc p) (Some p) (omega arith) (omega arith)))
+        (below_next p _ (omega arith) (left_below n (suc p) None (omega arith) tt))
+    left_below (suc n) p (Some a) h s =
         either_below p (has p) _ _
-        (below_next p _ (omega arith) (left_below n (suc p) (since a) (omega arith) (omega arith)))
-        (open_below a p _ (omega arith) s (below_next p _ (omega arith) (left_below n (suc p) outside (omega arith) tt)))
+        (below_next p _ (omega arith) (left_below n (suc p) (Some a) (omega arith) (omega arith)))
+        (open_below a p _ (omega arith) s (below_next p _ (omega arith) (left_below n (suc p) None (omega arith) tt)))
 
     -- what the walk has written lies above the interval that was passed last
     so_far : {lent now : List ℤ} {p : ℕ} {g : Progress} → Walked line cs has lent p g now → p ≤ suc (length cs) →
@@ -125,7 +125,7 @@ module _ (line : Run) (proper : Ordered line) (cs : List ℤ) (rising : Asc cs) 
           _,
           written_next line cs has done p g _ now x after r (omega arith) s,
           λ r m.
-              ⊎_elim (λ k. omega (ints, f r k, tops_up p (omega arith))) (λ k. ended_above p (has p) (begun_in g) (omega arith) x.begins r k)
+              ⊎_elim (λ k. omega (ints, f r k, tops_up p (omega arith))) (λ k. ended_above p (has p) g.since (omega arith) x.begins r k)
               (Memᴰ.append_cases done m),
         )
 
@@ -146,7 +146,7 @@ module _ (line : Run) (proper : Ordered line) (cs : List ℤ) (rising : Asc cs) 
           others = _;
           all = x.all;
           above = f;
-          below = left_below (suc (length cs) - suc p) (suc p) (begun_in g) (omega arith) x.begins;
+          below = left_below (suc (length cs) - suc p) (suc p) g.since (omega arith) x.begins;
           written = x.written;
         }
 

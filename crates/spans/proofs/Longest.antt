@@ -1,5 +1,5 @@
 -- There is one list of longest runs at most, and `runs` is it; and how many runs there are at most. Assumes nothing.
-use Rattle.std.specs.Prelude.{◌≡◌, refl, ◌⊎◌, ◌↔◌, Bool, true, false, List, [], ◌∷◌, ℕ, zero, suc, pred, ◌≤◌, ◌<◌, ◌+◌, ◌*◌, ◌/◌, T, ℤ, ◌≤ℤ◌, ◌<ℤ◌, length}
+use Rattle.std.specs.Prelude.{Option, None, Some, ◌≡◌, refl, ◌⊎◌, ◌↔◌, Bool, true, false, List, [], ◌∷◌, ℕ, zero, suc, pred, ◌≤◌, ◌<◌, ◌+◌, ◌*◌, ◌/◌, T, ℤ, ◌≤ℤ◌, ◌<ℤ◌, length}
 use Rattle.std.proofs.Common.{sym, ap, ◌∙◌, subst, inl, inr, ⊎_elim}
 use mathlib.Core.List.Memᴰ
 use native.Mathlib.Omega.{arith}
@@ -11,7 +11,7 @@ use Rattle.terms.specs.Held.{◌∈◌}
 use Rattle.terms.specs.Spans.{Run, run, Covers, Covered, Ordered, Apart, Longest, flat}
 use Rattle.line.specs.Cuts.{Asc, upto, nth, top_from, bottom_to}
 use Rattle.line.specs.CutLaws.{upto_length, nth_le, nth_gt, nth_in, nth_asc, top_own, inner_bottom, last_bottom}
-use Rattle.spans.specs.Runs.{Begun, outside, since, runs_from, runs}
+use Rattle.spans.specs.Runs.{runs_from, runs}
 use Rattle.spans.specs.Code.{Earlier}
 
 -- ---- at most one list
@@ -118,14 +118,14 @@ longest_one S rs ss a b = same_runs rs ss a.apart b.apart (λ i c. (b.exact i).1
 -- ---- the runs are the longest
 
 -- the first interval that is to be covered
-abbrev first : Begun → ℕ → ℕ
-first outside p = p
-first (since a) p = a
+abbrev first : Option ℕ → ℕ → ℕ
+first None p = p
+first (Some a) p = a
 
 -- the interval q is to be covered, with p the next: where a span has begun, all from its first up to p are
-abbrev Due : (ℕ → Bool) → Begun → ℕ → ℕ → Type 0
-Due has outside p q = (p ≤ q) × T (has q)
-Due has (since a) p q = (a ≤ q) × (p ≤ q → T (has q))
+abbrev Due : (ℕ → Bool) → Option ℕ → ℕ → ℕ → Type 0
+Due has None p q = (p ≤ q) × T (has q)
+Due has (Some a) p q = (a ≤ q) × (p ≤ q → T (has q))
 
 -- p itself, or one behind it
 at_or_after : (p q : ℕ) → p ≤ q → (q ≡ p) ⊎ (suc p ≤ q)
@@ -243,20 +243,20 @@ module _ (line : Run) (proper : Ordered line) (cs : List ℤ) (rising : Asc cs) 
 
   module _ (has : ℕ → Bool) where
     -- what the list of the spans that end at or behind interval p is
-    record From (p : ℕ) (g : Begun) (rs : List Run) : Type 0 where
+    record From (p : ℕ) (g : Option ℕ) (rs : List Run) : Type 0 where
       apart : Apart rs
       low : (r : Run) → r ∈ rs → top (first g p) ≤ℤ r.top
       exact : (i : ℤ) → Covered rs i ↔ (Covers line i × Due has g p (upto cs i))
 
     -- where runs are left behind p, p is not the last interval
-    later : (p : ℕ) (rs : List Run) → From (suc p) outside rs → (r : Run) → r ∈ rs → top p <ℤ r.top
+    later : (p : ℕ) (rs : List Run) → From (suc p) None rs → (r : Run) → r ∈ rs → top p <ℤ r.top
     later p rs F r m =
         let c = (F.exact r.top).0 (r, m, own r (ordered_in rs F.apart r m)) in
         let w = tops_rise p (omega (arith, c.1.0, upto_length cs r.top)) in
         omega (ints, F.low r m)
 
     -- interval p ends no span
-    kept : (p : ℕ) (g h : Begun) (rs : List Run) → From (suc p) h rs → ((r : Run) → r ∈ rs → top (first g p) ≤ℤ r.top) →
+    kept : (p : ℕ) (g h : Option ℕ) (rs : List Run) → From (suc p) h rs → ((r : Run) → r ∈ rs → top (first g p) ≤ℤ r.top) →
         ((q : ℕ) → Due has h (suc p) q → Due has g p q) → ((q : ℕ) → Due has g p q → Due has h (suc p) q) → From p g rs
     kept p g h rs F l f k = record {
       apart = F.apart;
@@ -267,7 +267,7 @@ module _ (line : Run) (proper : Ordered line) (cs : List ℤ) (rising : Asc cs) 
     -- the spans are the open one and those that begin behind p
     ended : (a p : ℕ) (rs : List Run) → a < p → p ≤ suc (length cs) → Apart rs → ((r : Run) → r ∈ rs → top p <ℤ r.top) →
         ((i : ℤ) → Covered rs i ↔ (Covers line i × ((suc p ≤ upto cs i) × T (has (upto cs i))))) → (T (has p) → p ≤ length cs → ⊥) →
-        From p (since a) (block a (pred p) ∷ rs)
+        From p (Some a) (block a (pred p) ∷ rs)
     ended a p rs h l apart low exact none = record {
       apart = (
         block_ordered a (pred p) (omega arith) (omega arith),
@@ -297,7 +297,7 @@ module _ (line : Run) (proper : Ordered line) (cs : List ℤ) (rising : Asc cs) 
         next zero h l = let z : ⊥ = omega arith in absurd z
         next (suc p) h l = omega (ints, at_cut p l, pred_is (nth cs p), suc_is (bottom p))
 
-        go : (i : ℤ) → Covers line i → Due has (since a) p (upto cs i) → Dec (upto cs i < p) → Covered (block a (pred p) ∷ rs) i
+        go : (i : ℤ) → Covers line i → Due has (Some a) p (upto cs i) → Dec (upto cs i < p) → Covered (block a (pred p) ∷ rs) i
         go i v w (yes k) = (block a (pred p), head, (block_covers a (pred p) i (omega arith)).1 (v, w.0, omega arith))
         go i v w (no k) = ⊎_elim
             (λ e. absurd (none (subst (λ q. T (has q)) e (w.1 (omega arith))) (omega (arith, upto_length cs i))))
@@ -309,26 +309,26 @@ module _ (line : Run) (proper : Ordered line) (cs : List ℤ) (rising : Asc cs) 
     none_left q h i = (λ c. absurd (Memᴰ.not-nil c.1), λ w. let z : ⊥ = omega (arith, w.1.0, upto_length cs i) in absurd z)
 
     -- by the number of intervals left
-    from : (n p : ℕ) (g : Begun) → p + n ≡ suc (length cs) → Earlier g p → From p g (runs_from line cs has n p g)
-    from zero p outside h s = record { apart = tt; low = λ r m. absurd (Memᴰ.not-nil m); exact = none_left p (omega arith) }
-    from zero p (since a) h s = ended a p [] s (omega arith) tt (λ r m. absurd (Memᴰ.not-nil m)) (none_left (suc p) (omega arith)) (λ t k. omega arith)
-    from (suc n) p outside h s = go (has p) refl (from n (suc p) (since p) (omega arith) (omega arith)) (from n (suc p) outside (omega arith) tt)
+    from : (n p : ℕ) (g : Option ℕ) → p + n ≡ suc (length cs) → Earlier g p → From p g (runs_from line cs has n p g)
+    from zero p None h s = record { apart = tt; low = λ r m. absurd (Memᴰ.not-nil m); exact = none_left p (omega arith) }
+    from zero p (Some a) h s = ended a p [] s (omega arith) tt (λ r m. absurd (Memᴰ.not-nil m)) (none_left (suc p) (omega arith)) (λ t k. omega arith)
+    from (suc n) p None h s = go (has p) refl (from n (suc p) (Some p) (omega arith) (omega arith)) (from n (suc p) None (omega arith) tt)
       where
-        go : (t : Bool) → has p ≡ t → From (suc p) (since p) (runs_from line cs has n (suc p) (since p)) →
-            From (suc p) outside (runs_from line cs has n (suc p) outside) →
-            From p outside (elim t [ true ↦ runs_from line cs has n (suc p) (since p) | false ↦ runs_from line cs has n (suc p) outside ])
-        go true e F G = kept p outside (since p) _ F F.low
+        go : (t : Bool) → has p ≡ t → From (suc p) (Some p) (runs_from line cs has n (suc p) (Some p)) →
+            From (suc p) None (runs_from line cs has n (suc p) None) →
+            From p None (elim t [ true ↦ runs_from line cs has n (suc p) (Some p) | false ↦ runs_from line cs has n (suc p) None ])
+        go true e F G = kept p None (Some p) _ F F.low
             (λ q w. (w.0, ⊎_elim (λ d. subst T (sym (ap has d ∙ e)) tt) (λ k. w.1 k) (at_or_after p q w.0)))
             (λ q w. (w.0, λ k. w.1))
-        go false e F G = kept p outside outside _ G (λ r m. omega (ints, later p _ G r m))
+        go false e F G = kept p None None _ G (λ r m. omega (ints, later p _ G r m))
             (λ q w. (omega (arith, w.0), w.1))
             (λ q w. ⊎_elim (λ d. absurd (subst T (ap has d ∙ e) w.1)) (λ k. (k, w.1)) (at_or_after p q w.0))
-    from (suc n) p (since a) h s = go (has p) refl (from n (suc p) (since a) (omega arith) (omega arith)) (from n (suc p) outside (omega arith) tt)
+    from (suc n) p (Some a) h s = go (has p) refl (from n (suc p) (Some a) (omega arith) (omega arith)) (from n (suc p) None (omega arith) tt)
       where
-        go : (t : Bool) → has p ≡ t → From (suc p) (since a) (runs_from line cs has n (suc p) (since a)) →
-            From (suc p) outside (runs_from line cs has n (suc p) outside) →
-            From p (since a) (elim t [ true ↦ runs_from line cs has n (suc p) (since a) | false ↦ block a (pred p) ∷ runs_from line cs has n (suc p) outside ])
-        go true e F G = kept p (since a) (since a) _ F F.low
+        go : (t : Bool) → has p ≡ t → From (suc p) (Some a) (runs_from line cs has n (suc p) (Some a)) →
+            From (suc p) None (runs_from line cs has n (suc p) None) →
+            From p (Some a) (elim t [ true ↦ runs_from line cs has n (suc p) (Some a) | false ↦ block a (pred p) ∷ runs_from line cs has n (suc p) None ])
+        go true e F G = kept p (Some a) (Some a) _ F F.low
             (λ q w. (w.0, λ k. ⊎_elim (λ d. subst T (sym (ap has d ∙ e)) tt) (λ l. w.1 l) (at_or_after p q k)))
             (λ q w. (w.0, λ k. w.1 (omega arith)))
         go false e F G = ended a p _ s (omega arith) G.apart (later p _ G) G.exact (λ t k. subst T e t)
@@ -337,15 +337,15 @@ module _ (line : Run) (proper : Ordered line) (cs : List ℤ) (rising : Asc cs) 
   pub runs_longest : (has : ℕ → Bool) → Longest (λ i. Covers line i × T (has (upto cs i))) (runs line cs has)
   unfolding runs
   runs_longest has =
-      let F = from has (suc (length cs)) 0 outside (omega arith) tt in
+      let F = from has (suc (length cs)) 0 None (omega arith) tt in
       record { apart = F.apart; exact = λ i. (λ c. let w = (F.exact i).0 c in (w.0, w.1.1), λ w. (F.exact i).1 (w.0, (omega arith, w.1))) }
 
 -- ---- how many there are
 
 -- the span that has begun
-abbrev open_too : Begun → ℕ
-open_too outside = 0
-open_too (since a) = 1
+abbrev open_too : Option ℕ → ℕ
+open_too None = 0
+open_too (Some a) = 1
 
 -- one of two lists is as short as both
 either : (t : Bool) (xs ys : List Run) (m : ℕ) → 2 * length xs ≤ m → 2 * length ys ≤ m → 2 * length {A = Run} (elim t [ true ↦ xs | false ↦ ys ]) ≤ m
@@ -353,16 +353,16 @@ either true xs ys m h k = h
 either false xs ys m h k = k
 
 -- each span but the last takes an interval without the label too
-few : (e : Run) (cs : List ℤ) (has : ℕ → Bool) (n p : ℕ) (g : Begun) → 2 * length (runs_from e cs has n p g) ≤ n + 1 + open_too g
-few e cs has zero p outside = omega arith
-few e cs has zero p (since a) = omega arith
-few e cs has (suc n) p outside = either (has p) _ _ _ (omega (arith, few e cs has n (suc p) (since p))) (omega (arith, few e cs has n (suc p) outside))
-few e cs has (suc n) p (since a) = either (has p) _ _ _ (omega (arith, few e cs has n (suc p) (since a))) (omega (arith, few e cs has n (suc p) outside))
+few : (e : Run) (cs : List ℤ) (has : ℕ → Bool) (n p : ℕ) (g : Option ℕ) → 2 * length (runs_from e cs has n p g) ≤ n + 1 + open_too g
+few e cs has zero p None = omega arith
+few e cs has zero p (Some a) = omega arith
+few e cs has (suc n) p None = either (has p) _ _ _ (omega (arith, few e cs has n (suc p) (Some p))) (omega (arith, few e cs has n (suc p) None))
+few e cs has (suc n) p (Some a) = either (has p) _ _ _ (omega (arith, few e cs has n (suc p) (Some a))) (omega (arith, few e cs has n (suc p) None))
 
 -- 01, Records: at most every second interval begins a span
 pub runs_few : (e : Run) (cs : List ℤ) (has : ℕ → Bool) → length (runs e cs has) ≤ (length cs + 2) / 2
 unfolding runs
-runs_few e cs has = omega (arith, few e cs has (suc (length cs)) 0 outside)
+runs_few e cs has = omega (arith, few e cs has (suc (length cs)) 0 None)
 
 -- two numbers a pair
 pub flat_length : (rs : List Run) → length (flat rs) ≡ 2 * length rs

@@ -1,17 +1,16 @@
 -- A pair laid into the buffer, and what a step makes of each case. Assumes nothing.
-use mathlib.Core.Path.{◌≡◌, refl, sym, ap, ◌∙◌}
-use mathlib.Core.Bool.{Bool, true, false, true≢false}
+use mathlib.Core.Path.{◌≡◌, sym, ap, ◌∙◌}
+use mathlib.Core.Bool.{Bool}
 use mathlib.Core.List.{List, [], ◌∷◌, ◌++◌, append-nil}
-use Prim.Native.Nat.{ℕ, pred, ◌+◌, ◌*◌, ◌≤◌, ◌<◌}
+use Prim.Native.Nat.{ℕ, ◌+◌, ◌*◌, ◌≤◌}
 use native.Mathlib.Omega.{arith}
 use native.Mathlib.Numerals.{add-one}
 use lib.IntN.{ℤ}
 use lib.ListN.{length, take, drop, set, take-append-drop}
 use lib.Seq.{sets-eq}
-use Rattle.terms.specs.Spans.{Run, flat}
+use Rattle.terms.specs.Spans.{Run, run, flat}
 use Rattle.spans.specs.declared.Progress.{Progress}
-use Rattle.spans.specs.Runs.{stretch_of}
-use Rattle.spans.specs.Code.{laid, begun_at, Earlier, ended_at, Stepped}
+use Rattle.spans.specs.Code.{laid, begun_after, ended_at, Stepped}
 
 -- ---- values laid into a list
 
@@ -25,40 +24,22 @@ none_laid l k =
     let e : k + 0 ≡ k = omega arith in
     sym (ap (λ j. (take k l ++ []) ++ drop j l) e ∙ ap (λ x. x ++ drop k l) (append-nil (take k l)) ∙ take-append-drop k l)
 
--- ---- the three cases of a step
+-- ---- a step, by what the pass gave
 
-abbrev progress : Bool → ℕ → ℕ → Progress
-progress b s k = record { begun = b; since = s; count = k }
-
--- a span that has begun, began before
-pub begun_earlier : (b : Bool) (s p : ℕ) → b ≡ true → Earlier (begun_at b s) p → s < p
-begun_earlier true s p e h = h
-begun_earlier false s p e h = absurd (true≢false (sym e))
-
--- a span that ends has room for its pair
-pub pair_fits : (line : Run) (cs : List ℤ) (p : ℕ) (b h : Bool) (s k size : ℕ) → b ≡ true → h ≡ false →
-    2 * (k + length (ended_at line cs p h (begun_at b s))) ≤ size → 2 * k + 2 ≤ size
-pair_fits line cs p true false s k size e f r = omega arith
-pair_fits line cs p true true s k size e f r = absurd (true≢false f)
-pair_fits line cs p false h s k size e f r = absurd (true≢false (sym e))
-
-module _ (line : Run) (cs : List ℤ) (p : ℕ) (buffer : List ℤ) where
-  pub not_begun : (b h : Bool) (s k : ℕ) → b ≡ false → Stepped line cs p h (progress b s k) buffer buffer (progress h p k)
+module _ (line : Run) (cs : List ℤ) (p : ℕ) (has : Bool) (g r : Progress) (before : List ℤ) (b : r.since ≡ begun_after p has g.since) where
+  pub no_more : [] ≡ ended_at line cs p has g.since → r.count ≡ g.count → Stepped line cs p has g before before r
   unfolding flat
-  not_begun true h s k e = absurd (true≢false e)
-  not_begun false true s k e = record { begun = refl; count = omega arith; buffer = none_laid buffer (2 * k) }
-  not_begun false false s k e = record { begun = refl; count = omega arith; buffer = none_laid buffer (2 * k) }
+  no_more e k = record {
+    begun = b;
+    count = omega (arith, k, ap length e);
+    buffer = none_laid before (2 * g.count) ∙ ap (λ rs. laid before (2 * g.count) (flat rs)) e;
+  }
 
-  pub goes_on : (b h : Bool) (s k : ℕ) → b ≡ true → h ≡ true → Stepped line cs p h (progress b s k) buffer buffer (progress b s k)
+  pub one_more : (t u : ℤ) (after : List ℤ) → run t u ∷ [] ≡ ended_at line cs p has g.since → r.count ≡ g.count + 1 →
+      after ≡ laid before (2 * g.count) (t ∷ u ∷ []) → Stepped line cs p has g before after r
   unfolding flat
-  goes_on true true s k e f = record { begun = refl; count = omega arith; buffer = none_laid buffer (2 * k) }
-  goes_on true false s k e f = absurd (true≢false (sym f))
-  goes_on false h s k e f = absurd (true≢false (sym e))
-
-  pub ends : (b h : Bool) (s k : ℕ) (r : Run) (after : List ℤ) → b ≡ true → h ≡ false → r ≡ stretch_of line cs s (pred p) →
-      after ≡ laid buffer (2 * k) (r.top ∷ r.bottom ∷ []) →
-      Stepped line cs p h (progress b s k) buffer after (progress h p (k + 1))
-  unfolding flat
-  ends true false s k r after e f x q = record { begun = refl; count = refl; buffer = q ∙ ap (λ y. laid buffer (2 * k) (y.top ∷ y.bottom ∷ [])) x }
-  ends true true s k r after e f x q = absurd (true≢false f)
-  ends false h s k r after e f x q = absurd (true≢false (sym e))
+  one_more t u after e k q = record {
+    begun = b;
+    count = omega (arith, k, ap length e);
+    buffer = q ∙ ap (λ rs. laid before (2 * g.count) (flat rs)) e;
+  }

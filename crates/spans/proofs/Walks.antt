@@ -1,6 +1,6 @@
 -- What a walk over the intervals has written, by the steps' contract alone: the spans that have ended, each once and in order, and nothing
 -- behind them; what comes next fits; and behind the last interval it is all spans. Assumes nothing.
-use Rattle.std.specs.Prelude.{◌≡◌, Bool, true, false, List, [], ◌∷◌, ◌++◌, ℤ, length, drop}
+use Rattle.std.specs.Prelude.{Option, None, Some, ◌≡◌, Bool, true, false, List, [], ◌∷◌, ◌++◌, ℤ, length, drop}
 use Rattle.std.proofs.Math.Path.{refl, ap}
 use Rattle.std.proofs.Common.{sym, ◌∙◌, subst, append_assoc, append-nil, length-append, take_at, drop-drop}
 use Prim.Native.Nat.{ℕ, zero, suc, ◌+◌, ◌-◌, ◌*◌, ◌≤◌}
@@ -9,8 +9,8 @@ use Rattle.std.proofs.Math.Seq.{drop-append-add}
 use Rattle.terms.specs.Limits.{CUTS, SPAN_NUMBERS}
 use Rattle.terms.specs.Spans.{Run, flat}
 use Rattle.spans.specs.declared.Progress.{Progress}
-use Rattle.spans.specs.Runs.{Begun, outside, since, runs_from, runs}
-use Rattle.spans.specs.Code.{SpansWritten, laid, begun_in, Earlier, ended_at, begun_after, Stepped, fresh, Walked, none, next}
+use Rattle.spans.specs.Runs.{runs_from, runs}
+use Rattle.spans.specs.Code.{SpansWritten, laid, Earlier, ended_at, begun_after, Stepped, fresh, Walked, none, next}
 use Rattle.spans.proofs.Longest.{flat_length, runs_fit}
 
 -- ---- values laid behind others
@@ -34,50 +34,50 @@ module _ (line : Run) (cs : List ℤ) (has : ℕ → Bool) where
   -- ---- the spans, interval by interval
 
   -- the spans that end at or behind interval p, where the walk has come to it with this span begun
-  abbrev pub left : ℕ → Begun → List Run
+  abbrev pub left : ℕ → Option ℕ → List Run
   left p g = runs_from line cs has (suc (length cs) - p) p g
 
   -- an interval more: what ends before it comes first
-  one_more : (n p : ℕ) (g : Begun) → runs_from line cs has (suc n) p g ≡ ended_at line cs p (has p) g ++ runs_from line cs has n (suc p) (begun_after p (has p) g)
-  one_more n p outside = go (has p)
+  one_more : (n p : ℕ) (g : Option ℕ) → runs_from line cs has (suc n) p g ≡ ended_at line cs p (has p) g ++ runs_from line cs has n (suc p) (begun_after p (has p) g)
+  one_more n p None = go (has p)
     where
       go : (t : Bool) →
-          elim t [ true ↦ runs_from line cs has n (suc p) (since p) | false ↦ runs_from line cs has n (suc p) outside ]
-          ≡ ended_at line cs p t outside ++ runs_from line cs has n (suc p) (begun_after p t outside)
+          elim t [ true ↦ runs_from line cs has n (suc p) (Some p) | false ↦ runs_from line cs has n (suc p) None ]
+          ≡ ended_at line cs p t None ++ runs_from line cs has n (suc p) (begun_after p t None)
       go true = refl
       go false = refl
-  one_more n p (since s) = go (has p)
+  one_more n p (Some s) = go (has p)
     where
       go : (t : Bool) →
-          elim t [ true ↦ runs_from line cs has n (suc p) (since s) | false ↦ ended_at line cs p false (since s) ++ runs_from line cs has n (suc p) outside ]
-          ≡ ended_at line cs p t (since s) ++ runs_from line cs has n (suc p) (begun_after p t (since s))
+          elim t [ true ↦ runs_from line cs has n (suc p) (Some s) | false ↦ ended_at line cs p false (Some s) ++ runs_from line cs has n (suc p) None ]
+          ≡ ended_at line cs p t (Some s) ++ runs_from line cs has n (suc p) (begun_after p t (Some s))
       go true = refl
       go false = refl
 
-  pub parted : (p : ℕ) (g : Begun) → p ≤ length cs → left p g ≡ ended_at line cs p (has p) g ++ left (suc p) (begun_after p (has p) g)
+  pub parted : (p : ℕ) (g : Option ℕ) → p ≤ length cs → left p g ≡ ended_at line cs p (has p) g ++ left (suc p) (begun_after p (has p) g)
   parted p g l =
       let e : suc (length cs) - p ≡ suc (suc (length cs) - suc p) = omega arith in
       ap (λ m. runs_from line cs has m p g) e ∙ one_more (suc (length cs) - suc p) p g
 
   -- behind the last interval only the open one is left
-  last_one : (p : ℕ) (g : Begun) → runs_from line cs has zero p g ≡ ended_at line cs p false g ++ []
-  last_one p outside = refl
-  last_one p (since s) = refl
+  last_one : (p : ℕ) (g : Option ℕ) → runs_from line cs has zero p g ≡ ended_at line cs p false g ++ []
+  last_one p None = refl
+  last_one p (Some s) = refl
 
-  pub last_parted : (p : ℕ) (g : Begun) → p ≡ suc (length cs) → left p g ≡ ended_at line cs p false g ++ []
+  pub last_parted : (p : ℕ) (g : Option ℕ) → p ≡ suc (length cs) → left p g ≡ ended_at line cs p false g ++ []
   last_parted p g d = let e : suc (length cs) - p ≡ 0 = omega arith in ap (λ m. runs_from line cs has m p g) e ∙ last_one p g
 
-  pub begins_after : (p : ℕ) (h : Bool) (g : Begun) → Earlier g p → Earlier (begun_after p h g) (suc p)
+  pub begins_after : (p : ℕ) (h : Bool) (g : Option ℕ) → Earlier g p → Earlier (begun_after p h g) (suc p)
   begins_after p false g l = tt
-  begins_after p true outside l = omega arith
-  begins_after p true (since s) l = omega arith
+  begins_after p true None l = omega arith
+  begins_after p true (Some s) l = omega arith
 
   -- ---- what is written where the walk comes to interval p
 
   -- the buffer holds these spans and is as lent behind them, and the others are left
   pub record WrittenSoFar (done : List Run) (p : ℕ) (g : Progress) (lent now : List ℤ) : Type 0 where
-    pub all : runs line cs has ≡ done ++ left p (begun_in g)
-    pub begins : Earlier (begun_in g) p
+    pub all : runs line cs has ≡ done ++ left p g.since
+    pub begins : Earlier g.since p
     pub written : SpansWritten done lent now g.count
 
   -- nothing before the first interval
@@ -85,16 +85,16 @@ module _ (line : Run) (cs : List ℤ) (has : ℕ → Bool) where
   unfolding runs flat
   none_written lent =
       let e : suc (length cs) ≡ suc (length cs) - 0 = omega arith in
-      record { all = ap (λ m. runs_from line cs has m 0 outside) e; begins = tt; written = record { count = refl; buffer = refl } }
+      record { all = ap (λ m. runs_from line cs has m 0 None) e; begins = tt; written = record { count = refl; buffer = refl } }
 
   module _ (done : List Run) (p : ℕ) (g : Progress) (lent now : List ℤ) (w : WrittenSoFar done p g lent now) where
     abbrev ended : Bool → List Run
-    ended h = ended_at line cs p h (begun_in g)
+    ended h = ended_at line cs p h g.since
 
-    all_parted : (h : Bool) (rest : List Run) → left p (begun_in g) ≡ ended h ++ rest → runs line cs has ≡ (done ++ ended h) ++ rest
+    all_parted : (h : Bool) (rest : List Run) → left p g.since ≡ ended h ++ rest → runs line cs has ≡ (done ++ ended h) ++ rest
     all_parted h rest e = w.all ∙ ap (λ x. done ++ x) e ∙ sym (append_assoc done (ended h) rest)
 
-    fits : length cs ≤ CUTS → SPAN_NUMBERS ≤ length now → (h : Bool) (rest : List Run) → left p (begun_in g) ≡ ended h ++ rest →
+    fits : length cs ≤ CUTS → SPAN_NUMBERS ≤ length now → (h : Bool) (rest : List Run) → left p g.since ≡ ended h ++ rest →
         2 * (g.count + length (ended h)) ≤ length now
     fits few room h rest e =
         omega (
@@ -122,15 +122,15 @@ module _ (line : Run) (cs : List ℤ) (has : ℕ → Bool) where
     pub written_next : (after : List ℤ) (r : Progress) → p ≤ length cs → Stepped line cs p (has p) g now after r →
         WrittenSoFar (done ++ ended (has p)) (suc p) r lent after
     written_next after r l s = record {
-      all = all_parted (has p) _ (parted p (begun_in g) l) ∙ ap (λ b. (done ++ ended (has p)) ++ left (suc p) b) (sym s.begun);
-      begins = subst (λ b. Earlier b (suc p)) (sym s.begun) (begins_after p (has p) (begun_in g) w.begins);
+      all = all_parted (has p) _ (parted p g.since l) ∙ ap (λ b. (done ++ ended (has p)) ++ left (suc p) b) (sym s.begun);
+      begins = subst (λ b. Earlier b (suc p)) (sym s.begun) (begins_after p (has p) g.since w.begins);
       written = more_written after r (has p) s;
     }
 
     written_last : (after : List ℤ) (r : Progress) → p ≡ suc (length cs) → Stepped line cs p false g now after r →
         SpansWritten (runs line cs has) lent after r.count
     written_last after r e s =
-        subst (λ rs. SpansWritten rs lent after r.count) (sym (all_parted false [] (last_parted p (begun_in g) e) ∙ append-nil (done ++ ended false)))
+        subst (λ rs. SpansWritten rs lent after r.count) (sym (all_parted false [] (last_parted p g.since e) ∙ append-nil (done ++ ended false)))
         (more_written after r false s)
 
   -- ---- a walk
@@ -142,16 +142,16 @@ module _ (line : Run) (cs : List ℤ) (has : ℕ → Bool) where
 
   module _ (lent now : List ℤ) (p : ℕ) (g : Progress) (w : Walked line cs has lent p g now) where
     -- a span that has begun, began before
-    pub walk_begins : p ≤ suc (length cs) → Earlier (begun_in g) p
+    pub walk_begins : p ≤ suc (length cs) → Earlier g.since p
     walk_begins h = (so_far w h).1.begins
 
     -- what the next step writes fits
-    pub walk_fits : length cs ≤ CUTS → SPAN_NUMBERS ≤ length now → p ≤ length cs → 2 * (g.count + length (ended_at line cs p (has p) (begun_in g))) ≤ length now
-    walk_fits few room h = fits _ p g lent now (so_far w (omega arith)).1 few room (has p) _ (parted p (begun_in g) h)
+    pub walk_fits : length cs ≤ CUTS → SPAN_NUMBERS ≤ length now → p ≤ length cs → 2 * (g.count + length (ended_at line cs p (has p) g.since)) ≤ length now
+    walk_fits few room h = fits _ p g lent now (so_far w (omega arith)).1 few room (has p) _ (parted p g.since h)
 
     pub walk_fits_last : length cs ≤ CUTS → SPAN_NUMBERS ≤ length now → p ≡ suc (length cs) →
-        2 * (g.count + length (ended_at line cs p false (begun_in g))) ≤ length now
-    walk_fits_last few room e = fits _ p g lent now (so_far w (omega arith)).1 few room false [] (last_parted p (begun_in g) e)
+        2 * (g.count + length (ended_at line cs p false g.since)) ≤ length now
+    walk_fits_last few room e = fits _ p g lent now (so_far w (omega arith)).1 few room false [] (last_parted p g.since e)
 
     -- the step behind the last interval writes the last of them
     pub walk_ends : (after : List ℤ) (r : Progress) → p ≡ suc (length cs) → Stepped line cs p false g now after r →

@@ -1,75 +1,73 @@
 -- What the contracts say of the spans in the lent buffer. Assumes nothing.
-use Rattle.std.specs.Prelude.{◌≡◌, Bool, true, false, List, [], ◌∷◌, ◌++◌, ℕ, zero, suc, pred, ◌+◌, ◌*◌, ◌≤◌, ◌<◌, ℤ, length, take, drop}
+use Rattle.std.specs.Prelude.{◌≡◌, Option, None, Some, Bool, true, false, List, [], ◌∷◌, ◌++◌, ℕ, zero, suc, pred, ◌+◌, ◌*◌, ◌≤◌, ◌<◌, ℤ, length, take, drop}
 use Rattle.terms.specs.Limits.{ITEMS, LABELS, LABEL_ENTRIES, SPAN_NUMBERS}
-use Rattle.terms.specs.Spans.{Run, flat}
-use Rattle.line.specs.Code.{CutsIn, LowCuts}
+use Rattle.terms.specs.Spans.{Run, run, flat}
+use Rattle.spans.specs.declared.Ends.{Ends}
 use Rattle.spans.specs.declared.Progress.{Progress}
 pub use Rattle.spans.specs.Ended.{SpansWritten}
-use Rattle.spans.specs.Runs.{Begun, outside, since, stretch_of}
+use Rattle.spans.specs.Runs.{stretch_of}
 
--- what a call for a label's spans may be given
-pub record ToWrite (buffer : List ℤ) (table : List ℕ) (a A : ℕ) (line : List ℤ) (n : ℕ) : Type 0 where
-  pub cuts : CutsIn line n
-  pub low : LowCuts line n
+-- item and label are in the label table
+pub record InTable (table : List ℕ) (a A : ℕ) : Type 0 where
   pub item : a < ITEMS
   pub label : A < LABELS
   pub labels : LABEL_ENTRIES ≤ length table
+
+-- what a call for a label's spans may be given
+pub record ToWrite (buffer : List ℤ) (table : List ℕ) (a A : ℕ) : Type 0 where
+  pub in_table : InTable table a A
   pub spans : SPAN_NUMBERS ≤ length buffer
 
 -- these values from this place on, and the others as they were
 unfoldable pub laid : List ℤ → ℕ → List ℤ → List ℤ
 laid l at vs = (take at l ++ vs) ++ drop (at + length vs) l
 
--- the code's flag and number as what they mean
-abbrev pub begun_at : Bool → ℕ → Begun
-begun_at true s = since s
-begun_at false s = outside
-
--- whether a span has begun, and where
-abbrev pub begun_in : Progress → Begun
-begun_in g = begun_at g.begun g.since
-
 -- the span that has begun, if there is one, began before interval p
-abbrev pub Earlier : Begun → ℕ → Type 0
-Earlier outside p = Unit {0}
-Earlier (since s) p = s < p
+abbrev pub Earlier : Option ℕ → ℕ → Type 0
+Earlier None p = Unit {0}
+Earlier (Some s) p = s < p
 
 -- the span that ends before interval p, by whether p has the label
-abbrev pub ended_at : Run → List ℤ → ℕ → Bool → Begun → List Run
+abbrev pub ended_at : Run → List ℤ → ℕ → Bool → Option ℕ → List Run
 ended_at e cs p true g = []
-ended_at e cs p false outside = []
-ended_at e cs p false (since s) = stretch_of e cs s (pred p) ∷ []
+ended_at e cs p false None = []
+ended_at e cs p false (Some s) = stretch_of e cs s (pred p) ∷ []
 
 -- whether a span has begun behind interval p
-abbrev pub begun_after : ℕ → Bool → Begun → Begun
-begun_after p false g = outside
-begun_after p true outside = since p
-begun_after p true (since s) = since s
+abbrev pub begun_after : ℕ → Bool → Option ℕ → Option ℕ
+begun_after p false g = None
+begun_after p true None = Some p
+begun_after p true (Some s) = Some s
 
 -- a span from one interval to the one before another
-pub record ToEnd (line : List ℤ) (n since p : ℕ) : Type 0 where
-  pub cuts : CutsIn line n
-  pub low : LowCuts line n
+pub record ToEnd (cs : List ℤ) (since p : ℕ) : Type 0 where
   pub begins : since < p
-  pub inside : p ≤ n + 1
+  pub inside : p ≤ length cs + 1
 
--- what a step at interval p may be given; behind the last interval one more, without the label, ends the open span
-pub record ToStep (e : Run) (buffer line : List ℤ) (n p : ℕ) (has : Bool) (g : Progress) : Type 0 where
-  pub cuts : CutsIn line n
-  pub low : LowCuts line n
-  pub inside : p ≤ n + 1
-  pub begins : Earlier (begun_in g) p
-  pub room : 2 * (g.count + length (ended_at e (take n line) p has (begun_in g))) ≤ length buffer
+-- what a pass of interval p may be given; behind the last interval one more, without the label, ends the open span
+pub record ToPass (cs : List ℤ) (p : ℕ) (g : Option ℕ) : Type 0 where
+  pub inside : p ≤ length cs + 1
+  pub begins : Earlier g p
+
+-- the span that a pass gives, by its two ends
+abbrev pub given : Option Ends → List Run
+given None = []
+given (Some e) = run e.top e.bottom ∷ []
+
+-- and what a step, which writes it
+pub record ToStep (e : Run) (buffer cs : List ℤ) (p : ℕ) (has : Bool) (g : Progress) : Type 0 where
+  pub pass : ToPass cs p g.since
+  pub room : 2 * (g.count + length (ended_at e cs p has g.since)) ≤ length buffer
 
 -- what the step at interval p does
 pub record Stepped (e : Run) (cs : List ℤ) (p : ℕ) (has : Bool) (g : Progress) (before after : List ℤ) (r : Progress) : Type 0 where
-  pub begun : begun_in r ≡ begun_after p has (begun_in g)
-  pub count : r.count ≡ g.count + length (ended_at e cs p has (begun_in g))
-  pub buffer : after ≡ laid before (2 * g.count) (flat (ended_at e cs p has (begun_in g)))
+  pub begun : r.since ≡ begun_after p has g.since
+  pub count : r.count ≡ g.count + length (ended_at e cs p has g.since)
+  pub buffer : after ≡ laid before (2 * g.count) (flat (ended_at e cs p has g.since))
 
 -- nothing has begun, and nothing is written
 abbrev pub fresh : Progress
-fresh = record { begun = false; since = 0; count = 0 }
+fresh = record { since = None; count = 0 }
 
 -- the loop of `write_spans` where it comes to an interval: the progress and the buffer that so many steps from the lent one on leave, each by `step`'s contract
 pub data Walked (e : Run) (cs : List ℤ) (has : ℕ → Bool) (lent : List ℤ) : ℕ → Progress → List ℤ → Type 0 where

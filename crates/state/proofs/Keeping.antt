@@ -14,10 +14,8 @@ use Rattle.terms.specs.Limits.{RULES, MARKS, DEPTHS}
 use Rattle.terms.specs.Holes.{lies_in}
 use Rattle.terms.specs.Profiles.{admits}
 use Rattle.terms.specs.Held.{ends_of, is_rule, is_mark, is_settings}
-use Rattle.terms.specs.Places.{rules_in}
 use Rattle.terms.specs.Same.{same_rule, same_mark}
 use Rattle.terms.specs.Lists.{every, once, depth_count, limits}
-use Rattle.scans.proofs.Keyed.{rules_length}
 use Rattle.state.specs.declared.State.{State}
 use Rattle.state.specs.State.{held_of, CountsIn}
 
@@ -41,13 +39,8 @@ second false b e = absurd (of_true (sym e))
 second true false e = absurd (of_true (sym e))
 second true true e = tt
 
-module _ (s : State) (p : CountsIn s) where
-  abbrev rules : List Rule
-  rules = rules_in s.rules s.rule_count
-
-  abbrev marks : List Mark
-  marks = take s.mark_count s.marks
-
+-- the held rules and marks, as they are read
+module _ (s : State) (p : CountsIn s) (rules : List Rule) (marks : List Mark) (rules-are : rules ≡ take s.rule_count s.rules) (marks-are : marks ≡ take s.mark_count s.marks) where
   abbrev few : Bool
   few = leb (depth_count (ends_of marks)) DEPTHS
 
@@ -58,9 +51,9 @@ module _ (s : State) (p : CountsIn s) where
   kept : limits (held_of s) ≡ (few && (every is_rule rules && (every is_mark marks && (once same_rule rules && (once same_mark marks && settled)))))
   unfolding limits
   kept =
-      let n = rules_length s.rules s.rule_count (omega arith) in
+      let n = length-take-le s.rule_count s.rules (omega arith) in
       let m = length-take-le s.mark_count s.marks (omega arith) in
-      rw (n, m, le-leb s.rule_count RULES p.few_rules, le-leb s.mark_count MARKS p.few_marks)
+      rw (rules-are, marks-are, n, m, le-leb s.rule_count RULES p.few_rules, le-leb s.mark_count MARKS p.few_marks)
 
   module _ (r m : Bool) (rule-ranges : r ≡ every is_rule rules) (mark-ranges : m ≡ every is_mark marks) where
     pub out_of_range : not (r && m) ≡ true → false ≡ limits (held_of s)

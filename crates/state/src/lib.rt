@@ -1,26 +1,20 @@
-// What is held, by value: a fresh state, what a change of it answers, and the limits as a test.
+// What is held, by value: a fresh state, and the limits as a test.
 #![tactic(auto)]
 
-ghost use Rattle.std.specs.Prelude.{◌≡◌};
+ghost use Rattle.std.specs.Prelude.{◌≡◌, take};
 ghost use Rattle.terms.specs.Lists.{limits};
 ghost use Rattle.state.specs.State.{CountsIn, held_of, empty_state};
 
-use terms::{DEPTHS, MARKS, Mark, RULES, RulePlace, Settings, Tested};
+use terms::{DEPTHS, MARKS, Mark, RULES, Rule, Settings};
 
+// Each list is an array with its count beside it: no heap.
 #[derive(Clone, Copy)]
 pub struct State {
-    pub rules: [RulePlace; RULES],
+    pub rules: [Rule; RULES],
     pub rule_count: usize,
     pub marks: [Mark; MARKS],
     pub mark_count: usize,
     pub settings: Settings,
-}
-
-// What a change answers: what its tests came to, and the state then. (The state holds arrays, so it stands beside the enum.)
-#[derive(Drop)]
-pub struct Change {
-    pub tested: Tested,
-    pub state: State,
 }
 
 impl State {
@@ -28,17 +22,29 @@ impl State {
     pub fn empty() -> State
         ensures { result ≡ empty_state }
     {
-        let place = RulePlace::EMPTY;
-        let mark = Mark::EMPTY;
-        let rules = [place; RULES];
-        let marks = [mark; MARKS];
         State {
-            rules,
+            rules: [Rule::EMPTY; RULES],
             rule_count: 0,
-            marks,
+            marks: [Mark::EMPTY; MARKS],
             mark_count: 0,
             settings: Settings::FRESH,
         }
+    }
+
+    // The held rules.
+    pub fn rules(&self) -> &[Rule]
+        requires { CountsIn self.now }
+        ensures { result.now ≡ take self.now.rule_count self.now.rules }
+    {
+        &self.rules[..self.rule_count]
+    }
+
+    // The held marks.
+    pub fn marks(&self) -> &[Mark]
+        requires { CountsIn self.now }
+        ensures { result.now ≡ take self.now.mark_count self.now.marks }
+    {
+        &self.marks[..self.mark_count]
     }
 
     // What the lists and settings keep: each rule and mark in range, few enough depths, none twice, settings that there are, no mark outside
@@ -47,22 +53,16 @@ impl State {
         requires { CountsIn self }
         ensures { result ≡ limits (held_of self) }
     {
-        let rules = self.rules;
-        let rule_count = self.rule_count;
-        let marks = self.marks;
-        let mark_count = self.mark_count;
-        let settings = self.settings;
-        let in_range = scans::rules_in_range(rules, rule_count)
-            & scans::marks_in_range(marks, mark_count);
+        let rules = self.rules();
+        let marks = self.marks();
+        let in_range = scans::rules_in_range(rules) & scans::marks_in_range(marks);
         if !in_range {
             return false;
         }
-        let few = scans::depth_count(marks, mark_count) <= DEPTHS;
-        let once = scans::rules_once(rules, rule_count) & scans::marks_once(marks, mark_count);
-        let hole = settings.hole;
-        let inside = scans::marks_inside(marks, mark_count, hole);
-        let profile = settings.profile;
-        let admitted = scans::rules_admitted(rules, rule_count, profile);
-        few & (once & (settings.in_range() & (inside & admitted)))
+        let few = scans::depth_count(marks) <= DEPTHS;
+        let once = scans::rules_once(rules) & scans::marks_once(marks);
+        let inside = scans::marks_inside(marks, self.settings.hole);
+        let admitted = scans::rules_admitted(rules, self.settings.profile);
+        few & (once & (self.settings.in_range() & (inside & admitted)))
     }
 }

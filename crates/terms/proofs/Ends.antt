@@ -88,7 +88,7 @@ ends_placed ms f d h = go (ends_only ms d h)
         (λ e. subst (λ z. T (is_depth z)) (sym e) (bottom_placed w.mark (f w.mark w.held)))
         w.end
 
--- ---- marks in their places
+-- ---- marks in a list
 
 -- what stands in a place below n is among the first n
 pub in_take : {X : Type 0} (xs : List X) (n i : ℕ) (d : X) → i < n → n ≤ length xs → get_or xs i d ∈ take n xs
@@ -97,5 +97,11 @@ in_take [] (suc n) i d h l = let z : ⊥ = omega arith in absurd z
 in_take (x ∷ xs) (suc n) zero d h l = Memᴰ.head refl
 in_take (x ∷ xs) (suc n) (suc i) d h l = Memᴰ.tail (in_take xs n i d (omega arith) (omega arith))
 
-pub mark_named : (ms : List Mark) (n i : ℕ) (d : Mark) → MarksNamed ms n → i < n → T (is_mark (get_or ms i d))
-mark_named ms n i d w h = w.each (get_or ms i d) (in_take ms n i d h (omega (arith, w.size, w.few)))
+-- and what stands in a place of the list is in it
+pub in_list : {X : Type 0} (xs : List X) (i : ℕ) (d : X) → i < length xs → get_or xs i d ∈ xs
+in_list [] i d h = let z : ⊥ = omega arith in absurd z
+in_list (x ∷ xs) zero d h = Memᴰ.head refl
+in_list (x ∷ xs) (suc i) d h = Memᴰ.tail (in_list xs i d (omega arith))
+
+pub mark_named : (ms : List Mark) (i : ℕ) (d : Mark) → MarksNamed ms → i < length ms → T (is_mark (get_or ms i d))
+mark_named ms i d w h = w.each (get_or ms i d) (in_list ms i d h)

@@ -1,21 +1,19 @@
 -- An operator that was read is in range, one in range reads back from its code and distance, what is in range fits its
 -- bytes, and a depth is told by its bits. Assumes nothing.
-use Rattle.std.specs.Prelude.{◌≡◌, refl, Bool, true, false, cond, ℕ, ◌^◌, ◌<◌, T, eqb, leb, ℤ, pos, negsuc}
+use Rattle.std.specs.Prelude.{◌≡◌, refl, Bool, true, false, cond, ℕ, ◌^◌, ◌<◌, T, eqb, leb, ℤ, pos, negsuc, Option, Some, None}
 use Rattle.std.proofs.Common.{sym, ap, ◌∙◌, arith, leb→le, SFits, to_z, of_z}
 use Rattle.std.specs.Int.Signed.{le_z}
 use Rattle.std.specs.Int.{w32}
 use Rattle.std.proofs.lemmas.Int.{to_z-of_z}
 use Rattle.terms.specs.declared.Operator.{Operator}
 use Rattle.terms.specs.declared.Operator.TheVariants.{Within, Between, Above, Below, Anywhere}
-use Rattle.terms.specs.declared.OperatorRead.{OperatorRead}
-use Rattle.terms.specs.declared.OperatorRead.TheVariants.{Valid, Invalid}
 use Rattle.terms.specs.Tests.{and_both}
 use Rattle.terms.specs.Limits.{WITHIN_MOST, SHALLOWEST, DEEPEST, is_depth}
 use Rattle.terms.specs.Operators.{read_if, is_distance, operator_of, code_of, distance_of, is_operator}
 
-abbrev pub ProperRead : OperatorRead → Type 0
-ProperRead (Valid o) = T (is_operator o)
-ProperRead Invalid = Unit {0}
+abbrev pub ProperRead : Option Operator → Type 0
+ProperRead (Some o) = T (is_operator o)
+ProperRead None = Unit {0}
 
 -- of both arms, so of either
 either : {X : Type 0} (P : X → Type 0) (b : Bool) {x y : X} → P x → P y → P (cond b x y)
@@ -35,11 +33,11 @@ read_proper c n =
     (either ProperRead (eqb c 4) (read_if_lem (eqb n 0) Below (λ t. tt))
     (either ProperRead (eqb c 5) (read_if_lem (eqb n 0) Anywhere (λ t. tt)) tt))))
 
-if_read : (b : Bool) (o : Operator) → T b → read_if b o ≡ Valid o
+if_read : (b : Bool) (o : Operator) → T b → read_if b o ≡ Some o
 if_read true o t = refl
 if_read false o t = absurd t
 
-pub operator_read : (o : Operator) → T (is_operator o) → operator_of (code_of o) (distance_of o) ≡ Valid o
+pub operator_read : (o : Operator) → T (is_operator o) → operator_of (code_of o) (distance_of o) ≡ Some o
 operator_read (Within n) t = if_read (is_distance n) (Within n) t
 operator_read Between t = refl
 operator_read Above t = refl

@@ -2,6 +2,7 @@ pub mod Order
 pub mod Tests
 pub mod Limits
 pub mod Stated
+pub mod Refusals
 pub mod Otherwise
 pub mod Countings
 pub mod Operators

@@ -1,15 +1,15 @@
 // The vocabulary: operators, countings, rules, marks, questions, the hole, the profile, settings, answers and the paper's limits.
 #![tactic(auto)]
 
-ghost use Rattle.std.specs.Prelude.{◌≡◌, cond, T, eqb};
+ghost use Rattle.std.specs.Prelude.{◌≡◌, cond, T, eqb, Ok, Err};
 ghost use Rattle.std.specs.Int.Signed.{le_z};
 ghost use Rattle.terms.specs.Limits.{is_item, is_kind, is_left, is_concluded, is_marked, is_label, is_depth};
 ghost use Rattle.terms.specs.Stated.{stated};
-ghost use Rattle.terms.specs.Otherwise.{or_else, read_tested};
-ghost use Rattle.terms.specs.declared.Tested.TheVariants as Came;
-ghost use Rattle.terms.specs.Operators.{read_if, is_distance, operator_of, code_of, distance_of, is_operator, or_identity};
+ghost use Rattle.terms.specs.Operators.{read_if, is_distance, operator_of, code_of, distance_of, is_operator};
 ghost use Rattle.terms.specs.Countings.{bound, is_counting, counting_of};
 ghost use Rattle.terms.specs.Counted.{counted, counted_rule};
+ghost use Rattle.terms.specs.declared.Answer.TheVariants as Said;
+ghost use Rattle.terms.specs.Refusals.{number_of_refusal};
 ghost use Rattle.terms.specs.Answers.{number_of, value_of};
 ghost use Rattle.terms.specs.Holes.{is_inside, is_hole, lies_in};
 ghost use Rattle.terms.specs.HoleLaws.{is_cut, line_of};
@@ -101,33 +101,65 @@ impl Limits {
     }
 }
 
-// What the tests of a table of refusals come to: none applies, or the number of the first that does.
-#[derive(Clone, Copy)]
-pub enum Tested {
-    Passed,
-    Refused(u8),
+// Why a record or a call is turned away.
+#[derive(Clone, Copy, PartialEq, Eq, Debug)]
+pub enum Refusal {
+    ShortMemory,
+    BadBlock,
+    BadFrame,
+    UnknownKind,
+    BadLength,
+    BadName,
+    BadOperator,
+    BadDepth,
+    AlreadyHeld,
+    NotHeld,
+    ListFull,
+    TooManyDepths,
+    BadPrice,
+    EndsReversed,
+    RulesHeld,
+    OutsideHole,
+    MarksHeld,
+    OutsideProfile,
 }
 
-impl Tested {
-    // One test: refused with the number unless it passes.
-    pub fn unless(passes: bool, number: u8) -> Tested
-        ensures { result ≡ cond passes Came.Passed (Came.Refused number) }
-    {
-        if passes {
-            return Tested::Passed;
-        }
-        Tested::Refused(number)
-    }
-
-    // This, and where it passes what comes after it.
-    pub fn or(self, later: Tested) -> Tested
-        ensures { result ≡ or_else self later }
+impl Refusal {
+    // The number by which an answer names it.
+    pub fn number(self) -> u8
+        ensures { result ≡ number_of_refusal self }
     {
         match self {
-            Tested::Passed => later,
-            Tested::Refused(number) => Tested::Refused(number),
+            Refusal::ShortMemory => 1,
+            Refusal::BadBlock => 2,
+            Refusal::BadFrame => 3,
+            Refusal::UnknownKind => 4,
+            Refusal::BadLength => 5,
+            Refusal::BadName => 6,
+            Refusal::BadOperator => 7,
+            Refusal::BadDepth => 8,
+            Refusal::AlreadyHeld => 9,
+            Refusal::NotHeld => 10,
+            Refusal::ListFull => 11,
+            Refusal::TooManyDepths => 12,
+            Refusal::BadPrice => 13,
+            Refusal::EndsReversed => 14,
+            Refusal::RulesHeld => 15,
+            Refusal::OutsideHole => 16,
+            Refusal::MarksHeld => 17,
+            Refusal::OutsideProfile => 20,
         }
     }
+}
+
+// One test: refused unless it passes.
+pub fn require(passes: bool, refusal: Refusal) -> Result<(), Refusal>
+    ensures { result ≡ cond passes (Ok tt) (Err refusal) }
+{
+    if passes {
+        return Ok(());
+    }
+    Err(refusal)
 }
 
 pub fn is_item(item: u8) -> bool
@@ -222,21 +254,11 @@ pub enum Operator {
     Anywhere,
 }
 
-// What a code and a distance are read as.
-#[derive(Clone, Copy)]
-pub enum OperatorRead {
-    Valid(Operator),
-    Invalid,
-}
-
 // The operator where the paper has no distance for it: n must be 0.
-fn without_distance(n: u32, operator: Operator) -> OperatorRead
+fn without_distance(n: u32, operator: Operator) -> Option<Operator>
     ensures { result ≡ read_if (eqb n 0) operator }
 {
-    if n == 0 {
-        return OperatorRead::Valid(operator);
-    }
-    OperatorRead::Invalid
+    (n == 0).then_some(operator)
 }
 
 impl Operator {
@@ -245,24 +267,17 @@ impl Operator {
 
     pub const BETWEEN: Operator = Operator::Between;
 
-    pub fn new(code: u8, n: u32) -> OperatorRead
+    // The operator that a code and a distance name, where they name one.
+    pub fn new(code: u8, n: u32) -> Option<Operator>
         ensures { result ≡ operator_of code n }
     {
         match code {
-            1 => {
-                if n == 0 {
-                    return OperatorRead::Invalid;
-                }
-                if WITHIN_MOST < n {
-                    return OperatorRead::Invalid;
-                }
-                OperatorRead::Valid(Operator::Within(n))
-            }
+            1 => ((1 <= n) & (n <= WITHIN_MOST)).then_some(Operator::Within(n)),
             2 => without_distance(n, Operator::BETWEEN),
             3 => without_distance(n, Operator::Above),
             4 => without_distance(n, Operator::Below),
             5 => without_distance(n, Operator::Anywhere),
-            _ => OperatorRead::Invalid,
+            _ => None,
         }
     }
 
@@ -318,27 +333,6 @@ impl Operator {
     }
 }
 
-impl OperatorRead {
-    pub fn tested(self) -> Tested
-        ensures { result ≡ read_tested self }
-    {
-        match self {
-            OperatorRead::Valid(_) => Tested::Passed,
-            OperatorRead::Invalid => Tested::Refused(7),
-        }
-    }
-
-    // The operator; for what is none, the one that changes nothing.
-    pub fn or_identity(self) -> Operator
-        ensures { result ≡ or_identity self }
-    {
-        match self {
-            OperatorRead::Valid(operator) => operator,
-            OperatorRead::Invalid => Operator::WITHIN_1,
-        }
-    }
-}
-
 // A rule carries its operator. Left to right: premises, then the conclusion.
 #[derive(Clone, Copy)]
 pub enum Rule {
@@ -349,6 +343,9 @@ pub enum Rule {
 }
 
 impl Rule {
+    // What stands in a free place of the rule list.
+    pub const EMPTY: Rule = Rule::Both(0, 0, 0);
+
     // The labels and link kinds are in range.
     pub fn is_named(self) -> bool
         ensures { result ≡ is_named self }
@@ -391,19 +388,6 @@ impl Rule {
             Rule::Via(r, a, b) => Rule::Via(r, a, b),
         }
     }
-}
-
-// A place of the rule list: an array holds structs, and these hold the enum.
-#[derive(Clone, Copy)]
-pub struct RulePlace {
-    pub rule: Rule,
-}
-
-impl RulePlace {
-    // What stands in a free place of the rule list.
-    pub const EMPTY: RulePlace = RulePlace {
-        rule: Rule::Both(0, 0, 0),
-    };
 }
 
 // A statement without its depth: an item has a label; a link leads from one item to another.
@@ -601,13 +585,6 @@ impl Settings {
     }
 }
 
-// A name as an index.
-pub fn wide(name: u8) -> usize
-    ensures { result ≡ name }
-{
-    name as usize
-}
-
 #[derive(Clone, Copy)]
 pub enum Answer {
     Done,
@@ -616,7 +593,16 @@ pub enum Answer {
     Contradiction(u8),
     Spans(u16),
     End,
+    // The number, not the refusal: what is said of an answer is said of each number, and C gets it.
     Refused(u8),
+}
+
+impl From<Refusal> for Answer {
+    ghost from_gives = { λ refusal answer. answer ≡ Said.Refused (number_of_refusal refusal) };
+
+    fn from(refusal: Refusal) -> Answer {
+        Answer::Refused(refusal.number())
+    }
 }
 
 impl Answer {
@@ -645,7 +631,7 @@ impl Answer {
             Answer::Contradiction(item) => item as u16,
             Answer::Spans(count) => count,
             Answer::End => 0,
-            Answer::Refused(number) => number as u16,
+            Answer::Refused(number) => u16::from(number),
         }
     }
 }

@@ -37,10 +37,8 @@ fn block_pairs(square: &mut [u64; 64], base: usize, step: usize, mask: u64)
     requires { Stage step mask × (base < 64) × (base % (step + step) ≡ 0) × (length square.old ≡ 64) }
     ensures { Span step square.old base (base + (step + step)) square.new }
 {
-    let mut k = 0;
-    while k < step {
+    for k in 0..step {
         pair_at(square, base + k, step, mask);
-        k += 1;
     }
 }
 
@@ -49,10 +47,8 @@ fn stage(square: &mut [u64; 64], step: usize, mask: u64)
     requires { Stage step mask × (length square.old ≡ 64) }
     ensures { Swapped step square.old square.new }
 {
-    let mut base = 0;
-    while base < 64 {
+    for base in (0..64).step_by(step + step) {
         block_pairs(square, base, step, mask);
-        base += step + step;
     }
 }
 

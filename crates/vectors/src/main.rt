@@ -8,32 +8,23 @@
 // A line: number, answer, bytes used, and a checksum of each memory, whole.
 #![tactic(auto)]
 
-mod fills;
-mod sums;
+mod memory;
 
-ghost use Rattle.std.specs.Prelude.{◌≡◌, ◌+◌, ◌≤◌, ◌<◌, length};
-ghost use Rattle.vectors.specs.Sizes.{BLOCK_ROOM, LABEL_ROOM, LINK_ROOM, SPAN_ROOM};
+ghost use Rattle.std.specs.Prelude.{◌≡◌, true, ◌+◌, ◌≤◌, ◌<◌, IfSome, length};
 
 use commands::Reply;
+use memory::{BLOCK_ROOM, Checksums, LABEL_ROOM, LINK_ROOM, Memory, SPAN_ROOM};
 
-const BLOCK_ROOM: usize = 5120;
-
-const LABEL_ROOM: usize = 3200;
-
-const LINK_ROOM: usize = 50000;
-
-const SPAN_ROOM: usize = 256;
+const LIMIT: usize = 65_536;
 
 fn main(rt: HostRuntime) {
-    // The one byte more than 65,536 shows that there is more.
+    // The one byte more than the limit shows that there is more.
     let mut script = [0u8; 65537];
-    let read = listing::read_input(&rt, &mut script, b"vectors: standard input");
-    if read.failed {
+    let Ok(count) = listing::read_input(&rt, &mut script, b"vectors: standard input") else {
         return;
-    }
-    let count = read.count;
-    if count > 65536 {
-        bad(&rt, count);
+    };
+    if LIMIT < count {
+        bad(&rt);
         return;
     }
     run(&rt, &script[..count]);
@@ -47,58 +38,45 @@ struct Place {
 }
 
 fn run(rt: &(impl Print + Eprint), script: &[u8]) {
-    let mut block = [0u8; BLOCK_ROOM];
-    let mut labels = [0u64; LABEL_ROOM];
-    let mut links = [0u8; LINK_ROOM];
-    let mut spans = [0i32; SPAN_ROOM];
+    let mut memory = Memory {
+        block: [0; BLOCK_ROOM],
+        labels: [0; LABEL_ROOM],
+        links: [0; LINK_ROOM],
+        spans: [0; SPAN_ROOM],
+    };
     let mut place = Place { at: 0, number: 0 };
     while place.at < script.len() {
-        place = step(
-            rt,
-            script,
-            place,
-            &mut block,
-            &mut labels,
-            &mut links,
-            &mut spans,
-        );
+        let Some(next) = step(rt, script, place, &mut memory) else {
+            return;
+        };
+        place = next;
     }
 }
 
-// Ends the run at the script's end.
-fn bad(rt: &(impl Print + Eprint), end: usize) -> Place
-    ensures { (result.at ≡ end) × (result.number ≡ 0) }
+// Says that the script is bad, which ends the run.
+fn bad(rt: &(impl Print + Eprint)) -> Option<Place>
+    ensures { result ≡ None }
 {
     listing::print(rt, b"bad script\n", b"vectors: standard output");
-    Place { at: end, number: 0 }
+    None
 }
 
+// The place behind a step; none where the run ends there.
 fn step(
     rt: &(impl Print + Eprint),
     script: &[u8],
     place: Place,
-    block: &mut [u8],
-    labels: &mut [u64],
-    links: &mut [u8],
-    spans: &mut [i32],
-) -> Place
-    requires number_le_at { (place.number ≤ place.at) × (place.at < length script.now) }
-    requires block_len { (length block.old ≡ BLOCK_ROOM) × (length labels.old ≡ LABEL_ROOM) × (length links.old ≡ LINK_ROOM)
-        × (length spans.old ≡ SPAN_ROOM) }
-    ensures { (result.number ≤ result.at) × (place.at < result.at) × (result.at ≤ length script.now) }
+    memory: &mut Memory,
+) -> Option<Place>
+    requires { (place.number ≤ place.at) × (place.at < length script.now) }
+    ensures { IfSome result (λ p. (p.number ≤ p.at) × (place.at < p.at) × (p.at ≤ length script.now)) }
 {
-    let at = place.at;
-    let kind = script[at];
-    if kind == 3 {
-        return fill(rt, script, place, block, labels, links, spans);
+    match script[place.at] {
+        1 | 2 => call(rt, script, place, memory),
+        3 => fill(rt, script, place, memory),
+        4 => poke(rt, script, place, memory),
+        _ => bad(rt),
     }
-    if kind == 4 {
-        return poke(rt, script, place, block);
-    }
-    if script.len() - at < 11 {
-        return bad(rt, script.len());
-    }
-    call(rt, script, place, block, labels, links, spans)
 }
 
 // CALL and SPANS, which have 11 bytes each; the input of CALL stands behind them.
@@ -106,62 +84,28 @@ fn call(
     rt: &(impl Print + Eprint),
     script: &[u8],
     place: Place,
-    block: &mut [u8],
-    labels: &mut [u64],
-    links: &mut [u8],
-    spans: &mut [i32],
-) -> Place
-    requires number_le_at { (place.number ≤ place.at) × (place.at + 11 ≤ length script.now) }
-    requires block_len { (length block.old ≡ BLOCK_ROOM) × (length labels.old ≡ LABEL_ROOM) × (length links.old ≡ LINK_ROOM)
-        × (length spans.old ≡ SPAN_ROOM) }
-    ensures { (result.number ≤ result.at) × (place.at < result.at) × (result.at ≤ length script.now) }
+    memory: &mut Memory,
+) -> Option<Place>
+    requires { (place.number ≤ place.at) × (place.at < length script.now) }
+    ensures { IfSome result (λ p. (p.number ≤ p.at) × (place.at < p.at) × (p.at ≤ length script.now)) }
 {
-    let lengths = lengths_at(script, place.at);
-    if !lengths.good {
-        return bad(rt, script.len());
+    let Some(lengths) = lengths_at(script, place.at) else {
+        return bad(rt);
+    };
+    let reply = lend(script, place.at, lengths, memory);
+    let number = place.number + 1;
+    if !print_line(rt, number, reply, memory.sums()) {
+        return None;
     }
-    let reply = lend(script, place.at, lengths, block, labels, links, spans);
-    let sums = sums_of(block, labels, links, spans);
-    after(rt, place, lengths.end, script.len(), reply, sums)
+    Some(Place {
+        at: lengths.end,
+        number,
+    })
 }
 
-// Lends the first elements of each memory.
-fn lend(
-    script: &[u8],
-    at: usize,
-    lengths: Lengths,
-    block: &mut [u8],
-    labels: &mut [u64],
-    links: &mut [u8],
-    spans: &mut [i32],
-) -> Reply
-    requires at_in_bounds { (at + 11 ≤ lengths.end) × (lengths.end ≤ length script.now) }
-    requires block_in_bounds { (lengths.block ≤ length block.old) × (lengths.labels ≤ length labels.old) × (lengths.links ≤ length links.old)
-        × (lengths.spans ≤ length spans.old) }
-{
-    let start = at + 11;
-    let end = lengths.end;
-    let b = lengths.block;
-    let t = lengths.labels;
-    let k = lengths.links;
-    let s = lengths.spans;
-    serve(
-        &mut block[0..b],
-        &mut labels[0..t],
-        &mut links[0..k],
-        &mut spans[0..s],
-        &script[start..end],
-        script[at],
-        script[at + 9],
-        script[at + 10],
-    )
-}
-
-// Where the step ends, and the lengths at which it lends the memory; not good where one is past its memory,
-// where the script does not have the input whole, or where the step is neither CALL nor SPANS.
+// Where the step ends, and the lengths at which it lends the memory.
 #[derive(Clone, Copy)]
 struct Lengths {
-    good: bool,
     end: usize,
     block: usize,
     labels: usize,
@@ -169,31 +113,35 @@ struct Lengths {
     spans: usize,
 }
 
-fn lengths_at(script: &[u8], at: usize) -> Lengths
-    requires { at + 11 ≤ length script.now }
-    ensures block_bound { (result.block ≤ BLOCK_ROOM) × (result.labels ≤ LABEL_ROOM) × (result.links ≤ LINK_ROOM) × (result.spans ≤ SPAN_ROOM) }
-    ensures at_bound { (at + 11 ≤ result.end) × (result.end ≤ length script.now) }
+// None where the script does not have the step whole, or where a length is past its memory.
+fn lengths_at(script: &[u8], at: usize) -> Option<Lengths>
+    requires { at < length script.now }
+    ensures bounds { IfSome result (λ l. (l.block ≤ BLOCK_ROOM) × (l.labels ≤ LABEL_ROOM) × (l.links ≤ LINK_ROOM) × (l.spans ≤ SPAN_ROOM)) }
+    ensures end { IfSome result (λ l. (at + 11 ≤ l.end) × (l.end ≤ length script.now)) }
 {
-    let start = at + 11;
-    let kind = script[at];
-    let count = input_count(kind, number_at(script, at + 9));
-    if !is_call(kind) {
-        return unlent(start);
+    if script.len() - at < 11 {
+        return None;
     }
-    if script.len() - start < count {
-        return unlent(start);
+    let lengths = Lengths {
+        end: at + 11 + input_count(script[at], number_at(script, at + 9)),
+        block: number_at(script, at + 1),
+        labels: number_at(script, at + 3),
+        links: number_at(script, at + 5),
+        spans: number_at(script, at + 7),
+    };
+    if script.len() < lengths.end || !is_lendable(lengths) {
+        return None;
     }
-    checked(
-        start + count,
-        number_at(script, at + 1),
-        number_at(script, at + 3),
-        number_at(script, at + 5),
-        number_at(script, at + 7),
-    )
+    Some(lengths)
 }
 
-fn is_call(kind: u8) -> bool {
-    kind == 1 || kind == 2
+fn is_lendable(lengths: Lengths) -> bool
+    ensures { result ≡ true → (lengths.block ≤ BLOCK_ROOM) × (lengths.labels ≤ LABEL_ROOM) × (lengths.links ≤ LINK_ROOM) × (lengths.spans ≤ SPAN_ROOM) }
+{
+    lengths.block <= BLOCK_ROOM
+        && lengths.labels <= LABEL_ROOM
+        && lengths.links <= LINK_ROOM
+        && lengths.spans <= SPAN_ROOM
 }
 
 // How many bytes of input a step has: SPANS has its item and label in the place of their number, and no input.
@@ -201,46 +149,41 @@ fn input_count(kind: u8, number: usize) -> usize
     requires { number ≤ 65535 }
     ensures { result ≤ 65535 }
 {
-    if kind == 2 {
-        return 0;
-    }
-    number
+    if kind == 2 { 0 } else { number }
 }
 
 fn number_at(script: &[u8], at: usize) -> usize
     requires { at + 2 ≤ length script.now }
     ensures { result ≤ 65535 }
 {
-    codec::u16_at(script, at) as usize
+    usize::from(codec::u16_at(script, at))
 }
 
-fn unlent(end: usize) -> Lengths
-    ensures { (result.block ≡ 0) × (result.labels ≡ 0) × (result.links ≡ 0) × (result.spans ≡ 0) × (result.end ≡ end) }
+// Lends the first elements of each memory.
+fn lend(script: &[u8], at: usize, lengths: Lengths, memory: &mut Memory) -> Reply
+    requires input { (at + 11 ≤ lengths.end) × (lengths.end ≤ length script.now) }
+    requires bounds { (lengths.block ≤ BLOCK_ROOM) × (lengths.labels ≤ LABEL_ROOM) × (lengths.links ≤ LINK_ROOM) × (lengths.spans ≤ SPAN_ROOM) }
 {
-    Lengths {
-        good: false,
-        end,
-        block: 0,
-        labels: 0,
-        links: 0,
-        spans: 0,
-    }
-}
-
-fn checked(end: usize, block: usize, labels: usize, links: usize, spans: usize) -> Lengths
-    ensures { (result.block ≤ BLOCK_ROOM) × (result.labels ≤ LABEL_ROOM) × (result.links ≤ LINK_ROOM) × (result.spans ≤ SPAN_ROOM) × (result.end ≡ end) }
-{
-    if block > BLOCK_ROOM || labels > LABEL_ROOM || links > LINK_ROOM || spans > SPAN_ROOM {
-        return unlent(end);
-    }
-    Lengths {
-        good: true,
-        end,
+    let Memory {
         block,
         labels,
         links,
         spans,
-    }
+    } = memory;
+    serve(
+        first(block, lengths.block),
+        first(labels, lengths.labels),
+        first(links, lengths.links),
+        first(spans, lengths.spans),
+        &script[at..lengths.end],
+    )
+}
+
+// The first elements of a memory.
+fn first<T>(elements: &mut [T], count: usize) -> &mut [T]
+    requires { count ≤ length elements.old }
+{
+    &mut elements[..count]
 }
 
 // SPANS: the call beside the records; CALL: a record call.
@@ -249,52 +192,14 @@ fn serve(
     labels: &mut [u64],
     links: &mut [u8],
     spans: &mut [i32],
-    input: &[u8],
-    kind: u8,
-    item: u8,
-    label: u8,
-) -> Reply {
-    if kind == 2 {
-        return service::spans_of(block, labels, links, spans, item, label);
-    }
-    service::record(block, labels, links, spans, input)
-}
-
-// A checksum of each memory, whole.
-#[derive(Drop)]
-struct Checksums {
-    block: u64,
-    labels: u64,
-    links: u64,
-    spans: u64,
-}
-
-fn sums_of(block: &[u8], labels: &[u64], links: &[u8], spans: &[i32]) -> Checksums {
-    Checksums {
-        block: sums::of_bytes(block),
-        labels: sums::of_numbers(labels),
-        links: sums::of_bytes(links),
-        spans: sums::of_depths(spans),
-    }
-}
-
-// Prints a call's line and answers the place behind its step; the script's end where the line cannot be written.
-fn after(
-    rt: &(impl Print + Eprint),
-    place: Place,
-    next: usize,
-    end: usize,
-    reply: Reply,
-    sums: Checksums,
-) -> Place
-    requires { (place.number ≤ place.at) × (place.at < next) × (next ≤ end) }
-    ensures { (result.number ≤ result.at) × (place.at < result.at) × (result.at ≤ end) }
+    step: &[u8],
+) -> Reply
+    requires { 11 ≤ length step.now }
 {
-    let number = place.number + 1;
-    if print_line(rt, number, reply, sums) {
-        return Place { at: next, number };
+    if step[0] == 2 {
+        return service::spans_of(block, labels, links, spans, step[9], step[10]);
     }
-    Place { at: end, number }
+    service::record(block, labels, links, spans, &step[11..])
 }
 
 // A line has 20 bytes for its number, a blank, 36 for each of six words with their numbers, and its end.
@@ -307,7 +212,7 @@ fn print_line(rt: &(impl Print + Eprint), number: usize, reply: Reply, sums: Che
     let used = lines::put_counted(&mut line, bytes, b" used ", reply.used as u64);
     let end = put_sums(&mut line, used, sums);
     let all = lines::put_text(&mut line, end, b"\n");
-    listing::print_first(rt, &line, all, b"vectors: standard output")
+    listing::print(rt, &line[..all], b"vectors: standard output")
 }
 
 fn put_sums(out: &mut [u8], at: usize, sums: Checksums) -> usize
@@ -326,59 +231,42 @@ fn fill(
     rt: &(impl Print + Eprint),
     script: &[u8],
     place: Place,
-    block: &mut [u8],
-    labels: &mut [u64],
-    links: &mut [u8],
-    spans: &mut [i32],
-) -> Place
+    memory: &mut Memory,
+) -> Option<Place>
     requires { (place.number ≤ place.at) × (place.at < length script.now) }
-    ensures { (result.number ≤ result.at) × (place.at < result.at) × (result.at ≤ length script.now) }
+    ensures { IfSome result (λ p. (p.number ≤ p.at) × (place.at < p.at) × (p.at ≤ length script.now)) }
 {
     let at = place.at;
-    if script.len() - at < 3 {
-        return bad(rt, script.len());
+    if script.len() - at < 3 || !memory.fill(script[at + 1], script[at + 2]) {
+        return bad(rt);
     }
-    let which = script[at + 1];
-    let seed = script[at + 2];
-    let next = Place {
+    Some(Place {
         at: at + 3,
         number: place.number,
-    };
-    if which == 0 {
-        fills::bytes(block, seed);
-        return next;
-    }
-    if which == 1 {
-        fills::numbers(labels, seed);
-        return next;
-    }
-    if which == 2 {
-        fills::bytes(links, seed);
-        return next;
-    }
-    if which == 3 {
-        fills::depths(spans, seed);
-        return next;
-    }
-    bad(rt, script.len())
+    })
 }
 
 // POKE: one byte of the block.
-fn poke(rt: &(impl Print + Eprint), script: &[u8], place: Place, block: &mut [u8]) -> Place
+fn poke(
+    rt: &(impl Print + Eprint),
+    script: &[u8],
+    place: Place,
+    memory: &mut Memory,
+) -> Option<Place>
     requires { (place.number ≤ place.at) × (place.at < length script.now) }
-    ensures { (result.number ≤ result.at) × (place.at < result.at) × (result.at ≤ length script.now) }
+    ensures { IfSome result (λ p. (p.number ≤ p.at) × (place.at < p.at) × (p.at ≤ length script.now)) }
 {
     let at = place.at;
     if script.len() - at < 4 {
-        return bad(rt, script.len());
+        return bad(rt);
     }
     let target = number_at(script, at + 1);
-    if target < block.len() {
-        block[target] = script[at + 3];
-        return Place {
-            at: at + 4,
-            number: place.number,
-        };
+    if target >= BLOCK_ROOM {
+        return bad(rt);
     }
-    bad(rt, script.len())
+    memory.block[target] = script[at + 3];
+    Some(Place {
+        at: at + 4,
+        number: place.number,
+    })
 }

@@ -1,9 +1,9 @@
 -- Laws of a search among the numbers below a bound, and of the lowest that passes. Assumes nothing.
-use Rattle.std.specs.Prelude.{◌≡◌, refl, ◌⊎◌, Bool, true, false, ◌&&◌, List, ℕ, zero, suc, ◌+◌, ◌<◌, ◌≤◌, T}
+use Rattle.std.specs.Prelude.{Option, Some, ◌≡◌, refl, ◌⊎◌, Bool, true, false, ◌&&◌, List, ℕ, zero, suc, ◌+◌, ◌<◌, ◌≤◌, T}
 use Rattle.std.proofs.Common.{sym, ap, subst, inl, inr, ⊎_elim, true≢false, eq-or-lt_of_le, arith}
 use Rattle.terms.specs.Tests.{or_one, or_left, or_right}
 use Rattle.terms.specs.Limits.{ITEMS}
-use Rattle.verdicts.specs.Reading.{any_below, Lookup, first, lowest_of, never_in, clash_of, clashes_in, clash_in}
+use Rattle.verdicts.specs.Reading.{any_below, lowest_of, never_in, clashes_in, clash_in}
 
 pub one_below : (n : ℕ) (f : ℕ → Bool) (p : ℕ) → p < n → T (f p) → T (any_below n f)
 one_below zero f p l t = let z : ⊥ = omega arith in absurd z
@@ -25,8 +25,8 @@ lowest_same zero a f g e = refl
 lowest_same (suc n) a f g e = go (f a) (g a) (e a (omega arith)) (lowest_same n (suc a) f g (λ b l. e b (omega arith)))
   where
     go : (s t : Bool) → s ≡ t → lowest_of f n (suc a) ≡ lowest_of g n (suc a) →
-        ◌≡◌ {A = Lookup} (elim s [ true ↦ first a | false ↦ lowest_of f n (suc a) ])
-        (elim t [ true ↦ first a | false ↦ lowest_of g n (suc a) ])
+        ◌≡◌ {A = Option ℕ} (elim s [ true ↦ Some a | false ↦ lowest_of f n (suc a) ])
+        (elim t [ true ↦ Some a | false ↦ lowest_of g n (suc a) ])
     go true true d k = refl
     go true false d k = absurd (true≢false d)
     go false true d k = absurd (true≢false (sym d))
@@ -35,4 +35,4 @@ lowest_same (suc n) a f g e = go (f a) (g a) (e a (omega arith)) (lowest_same n 
 pub clash_same : (J K : ℕ → Bool) → ((a : ℕ) → a < ITEMS → J a ≡ K a) → (labels : List ℕ) → clash_in J labels ≡ clash_in K labels
 unfolding clash_in
 clash_same J K e labels =
-    ap clash_of (lowest_same ITEMS 0 (clashes_in J labels) (clashes_in K labels) (λ a l. ap (λ b. b && never_in labels a) (e a (omega arith))))
+    lowest_same ITEMS 0 (clashes_in J labels) (clashes_in K labels) (λ a l. ap (λ b. b && never_in labels a) (e a (omega arith)))

@@ -1,5 +1,5 @@
 -- Bit `k` of `x`, as the number 0 or 1, and what the functions on words say of it.
-use Rattle.std.specs.Prelude.{◌≡◌, ℕ, suc, ◌+◌, ◌-◌, ◌/◌, ◌%◌, ◌^◌, ◌<◌, ◌≤◌}
+use Rattle.std.specs.Prelude.{◌≡◌, ℕ, suc, ◌+◌, ◌/◌, ◌%◌, ◌^◌, ◌<◌, ◌≤◌}
 use Rattle.std.proofs.Common.{sym, ap, ◌∙◌, arith, shr-shr}
 
 -- bit `k` of `x`
@@ -15,10 +15,6 @@ bit_suc x p = ap (λ (y : ℕ). y % 2) (sym (shr-shr x 1 p ∙ ap (λ (m : ℕ).
 pub record Ones (n r : ℕ) : Type 0 where
   pub all : (p : ℕ) → p < 64 → p < n → bit_at r p ≡ 1
   pub none : (p : ℕ) → n ≤ p → bit_at r p ≡ 0
-
--- `r` is `n - k`, and 0 where `n` is less
-pub record Minus (n k r : ℕ) : Type 0 where
-  pub is : r ≡ n - k
 
 -- `r` is the lowest set bit of `x`
 pub record LowestBit (x r : ℕ) : Type 0 where

@@ -2,7 +2,7 @@
 #![tactic(auto)]
 
 ghost use Rattle.std.specs.Prelude.{◌≡◌, ◌<◌};
-ghost use Rattle.words.specs.Bit.{bit_at, Ones, LowestBit, Length, Minus};
+ghost use Rattle.words.specs.Bit.{bit_at, Ones, LowestBit, Length};
 
 // Bit `k` of `x`: 0 or 1.
 pub fn bit(x: u64, k: usize) -> u64
@@ -19,17 +19,7 @@ pub fn ones(n: usize) -> u64
     if n < 64 {
         return (1 << n) - 1;
     }
-    0xffff_ffff_ffff_ffff
-}
-
-// `n - k`, and 0 where `n` is less.
-pub fn minus(n: usize, k: usize) -> usize
-    ensures { Minus n k result }
-{
-    if n < k {
-        return 0;
-    }
-    n - k
+    u64::MAX
 }
 
 // The lowest set bit.
@@ -37,12 +27,12 @@ pub fn lowest(x: u64) -> usize
     requires { 0 < x }
     ensures { LowestBit x result }
 {
-    u64::trailing_zeros(x) as usize
+    x.trailing_zeros() as usize
 }
 
 // One more than the highest set bit, and 0 of 0.
 pub fn length(x: u64) -> usize
     ensures { Length x result }
 {
-    64 - u64::leading_zeros(x) as usize
+    64 - x.leading_zeros() as usize
 }

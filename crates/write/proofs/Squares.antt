@@ -31,9 +31,6 @@ square_more l start w n t h S =
           (eq_or_ne k n);
     }
 
-pub square_all : (l : List ℕ) (start w n count : ℕ) (t : List ℕ) → count ≤ n → Square l start w n t → Square l start w count t
-square_all l start w n count t h S = record { size = S.size; at = λ k i. S.at k (omega arith) }
-
 -- ---- a square transposed
 pub columns_is : (l : List ℕ) (start w count : ℕ) (t u : List ℕ) → w < 4 → count ≤ 64 → Square l start w count t → Transposed t u → Columns l start w count u
 columns_is l start w count t u h g S F = record { size = F.size ∙ S.size; at = by }
@@ -63,6 +60,3 @@ laid_more value base n l m h L =
           get_or-set_other m (base + n) x _ 0 (λ e. ⊎_elim (λ (a : x < base). omega arith) (λ (a : base + (n + 1) ≤ x). omega arith) k)
           ∙ L.others x (⊎_elim (λ a. inl a) (λ (a : base + (n + 1) ≤ x). inr (omega arith)) k);
     }
-
-pub laid_all : (value : ℕ → ℕ) (base n count : ℕ) (l m : List ℕ) → n ≤ count → count ≤ n → Laid value base n l m → Laid value base count l m
-laid_all value base n count l m g h L = subst (λ (x : ℕ). Laid value base x l m) (let e : n ≡ count = omega arith in e) L

@@ -1,7 +1,7 @@
 -- Parts of a block joined, and blocks one after the other, until the table is whole.
 use mathlib.Core.Path.{◌≡◌, refl, sym, ap, ◌∙◌, subst}
 use mathlib.Core.Logic.{inl, inr, ⊎_elim}
-use mathlib.Core.List.{List}
+use mathlib.Core.List.{List, [], ◌∷◌, ◌++◌}
 use mathlib.Core.Bool.{Bool, true}
 use Prim.Native.Nat.{ℕ, ◌+◌, ◌*◌, ◌-◌, ◌/◌, ◌%◌, ◌<◌, ◌≤◌}
 use native.Mathlib.Omega.{arith}
@@ -9,6 +9,10 @@ use lib.Bits.{bit_or}
 use lib.Dec.{eqb}
 use borrow.Author.Tests.{eqb-true}
 use lib.ListN.{length, get_or}
+use lib.Seq.{get_or-append_seam}
+use Rattle.std.specs.List.{between}
+use Rattle.std.proofs.lemmas.List.{length_push, get_or_append_left}
+use Rattle.std.proofs.lemmas.List.Edits.{get_or-between, length-between}
 use Rattle.store.specs.Numbers.{LINK_ROWS, PAIRS}
 use Rattle.terms.specs.Limits.{INTERVALS, KINDS, ITEMS, LABELS}
 use Rattle.words.specs.Bit.{bit_at}
@@ -51,23 +55,30 @@ bytes_part l start base w n t m m' h T L =
     (λ k c i j. cut_bit (get_or t k 0) 8 c j ∙ T.at k c (omega arith) j) L
 
 -- ---- a block of eight rows that are empty
--- where `x` is 0, the first `n` words from row `start` on are
-pub record Clear (l : List ℕ) (start n x : ℕ) : Type 0 where
-  pub none : x ≡ 0 → (k : ℕ) → k < n → get_or l (start * 4 + k) 0 ≡ 0
+-- where `x` is 0, all of `ys` are
+pub record Zeros (ys : List ℕ) (x : ℕ) : Type 0 where
+  pub none : x ≡ 0 → (k : ℕ) → k < length ys → get_or ys k 0 ≡ 0
 
-pub clear_none : (l : List ℕ) (start x : ℕ) → Clear l start 0 x
-clear_none l start x = record { none = λ _ k h. absurd (let z : ⊥ = omega arith in z) }
+pub zeros_none : (x : ℕ) → Zeros [] x
+zeros_none x = record { none = λ _ k h. absurd (let z : ⊥ = omega arith in z) }
 
-pub clear_more : (l : List ℕ) (start n x : ℕ) → Clear l start n x → Clear l start (n + 1) (bit_or x (get_or l (start * 4 + n) 0))
-clear_more l start n x C = record { none = by }
+pub zeros_more : (ys : List ℕ) (x y : ℕ) → Zeros ys x → Zeros (ys ++ (y ∷ [])) (bit_or x y)
+zeros_more ys x y Z = record { none = by }
   where
-    by : bit_or x (get_or l (start * 4 + n) 0) ≡ 0 → (k : ℕ) → k < n + 1 → get_or l (start * 4 + k) 0 ≡ 0
+    by : bit_or x y ≡ 0 → (k : ℕ) → k < length (ys ++ (y ∷ [])) → get_or (ys ++ (y ∷ [])) k 0 ≡ 0
     by e k h =
-        let z = or_zero x (get_or l (start * 4 + n) 0) e in
-        ⊎_elim (λ (q : k ≡ n). ap (λ (y : ℕ). get_or l (start * 4 + y) 0) q ∙ z.1) (λ ne. C.none z.0 k (omega arith)) (eq_or_ne k n)
+        let z = or_zero x y e in
+        ⊎_elim
+        (λ (q : k ≡ length ys). rw q (get_or-append_seam ys y [] 0 ∙ z.1))
+        (λ ne. let g : k < length ys = omega (arith, length_push ys y) in get_or_append_left ys (y ∷ []) 0 k g ∙ Z.none z.0 k g)
+        (eq_or_ne k (length ys))
 
-pub clear_all : (l : List ℕ) (start n x : ℕ) → KINDS * 4 ≤ n → Clear l start n x → Unused l start (eqb x 0)
-clear_all l start n x h C = record { none = λ e k i. C.none (eqb-true _ _ e) k (omega arith) }
+pub zeros_all : (l : List ℕ) (start x : ℕ) → start * 4 + KINDS * 4 ≤ length l → Zeros (between (start * 4) (start * 4 + KINDS * 4) l) x → Unused l start (eqb x 0)
+zeros_all l start x h Z = record {
+  none = λ e k i.
+      sym (get_or-between l (start * 4) (start * 4 + KINDS * 4) k 0 (omega arith))
+      ∙ Z.none (eqb-true _ _ e) k (omega (arith, length-between l (start * 4) (start * 4 + KINDS * 4) h));
+}
 
 pub unused_part : (l : List ℕ) (start base : ℕ) (r : Bool) (m m' : List ℕ) → Unused l start r → r ≡ true → Laid zero_at base INTERVALS m m' →
     Part l start 8 base 0 INTERVALS m m'

@@ -21,10 +21,8 @@ fn square_of(rows: &[u64], start: usize, w: usize, count: usize) -> [u64; 64]
 {
     let mut square = [0u64; 64];
     let base = start * 4 + w;
-    let mut k = 0;
-    while k < count {
+    for k in 0..count {
         square[k] = rows[base + k * 4];
-        k += 1;
     }
     square
 }
@@ -44,11 +42,7 @@ fn lay_words(labels: &mut [u64], base: usize, square: &[u64; 64], count: usize)
     requires { (base + count ≤ length labels.old) × (count ≤ 64) × (length square.now ≡ 64) }
     ensures { Laid (words_of square.now) base count labels.old labels.new }
 {
-    let mut k = 0;
-    while k < count {
-        labels[base + k] = square[k];
-        k += 1;
-    }
+    labels[base..base + count].copy_from_slice(&square[..count]);
 }
 
 // Copies the lowest byte of `count` words of a square to the bytes from `base` on.
@@ -56,10 +50,8 @@ fn lay_bytes(links: &mut [u8], base: usize, square: &[u64; 64], count: usize)
     requires { (base + count ≤ length links.old) × (count ≤ 64) × (length square.now ≡ 64) }
     ensures { Laid (bytes_of square.now) base count links.old links.new }
 {
-    let mut k = 0;
-    while k < count {
+    for k in 0..count {
         links[base + k] = (square[k] % 256) as u8;
-        k += 1;
     }
 }
 
@@ -68,11 +60,7 @@ fn clear(links: &mut [u8], base: usize)
     requires { base + INTERVALS ≤ length links.old }
     ensures { Laid zero_at base INTERVALS links.old links.new }
 {
-    let mut k = 0;
-    while k < INTERVALS {
-        links[base + k] = 0;
-        k += 1;
-    }
+    links[base..base + INTERVALS].fill(0);
 }
 
 // The first `count` of the 64 entries of an item that word `w` of its rows has.
@@ -100,10 +88,8 @@ pub fn write_labels(labels: &mut [u64], rows: &[u64])
     requires { (STORE_WORDS ≤ length rows.now) × (LABEL_ENTRIES ≤ length labels.old) }
     ensures { LabelsWritten rows.now labels.old labels.new }
 {
-    let mut item = 0;
-    while item < ITEMS {
+    for item in 0..ITEMS {
         write_item(labels, rows, item);
-        item += 1;
     }
 }
 
@@ -113,16 +99,14 @@ fn unused(rows: &[u64], start: usize) -> bool
     ensures { Unused rows.now start result }
 {
     let base = start * 4;
-    let mut any = 0u64;
-    let mut k = 0;
-    while k < PAIR_WORDS {
-        any = any | rows[base + k];
-        k += 1;
-    }
+    let any = rows[base..base + PAIR_WORDS]
+        .iter()
+        .fold(0, |any, word| any | *word);
     any == 0
 }
 
-// The first `count` of the 64 bytes of a pair that word `w` of its rows has.
+// The first `count` of the 64 bytes of a pair that word `w` of its rows has. One function for both tables would be no plainer: words
+// are copied and bytes cut out, and its contract would state both through a view of the entry.
 fn pair_part(links: &mut [u8], rows: &[u64], pair: usize, w: usize, count: usize)
     requires { ((LINK_ROWS + pair * KINDS + KINDS) * 4 ≤ length rows.now) × (pair * INTERVALS + w * 64 + count ≤ length links.old)
         × (w < 4) × (count ≤ 64) }
@@ -153,9 +137,7 @@ pub fn write_links(links: &mut [u8], rows: &[u64])
     requires { (STORE_WORDS ≤ length rows.now) × (LINK_ENTRIES ≤ length links.old) }
     ensures { LinksWritten rows.now links.old links.new }
 {
-    let mut pair = 0;
-    while pair < PAIRS {
+    for pair in 0..PAIRS {
         write_pair(links, rows, pair);
-        pair += 1;
     }
 }

@@ -1,9 +1,8 @@
--- The four stores are `sets` of the four bytes, which `sets_put` turns into `put`.
-use native.Mathlib.Numerals.{towards_suc}
-use Rattle.codec.specs.Bytes.{bytes}
-use Rattle.codec.proofs.Laws.{sets_put}
+-- The bytes as the library writes them.
+use Rattle.std.proofs.Common.{◌∙◌, ap}
+use Rattle.codec.specs.Bytes.{put}
+use Rattle.codec.proofs.Laws.{bytes_written}
 use Rattle.codec.proofs.put_u32.Goals as goal
 
 pub returns : goal.returns
-unfolding bytes
-returns c = simp towards_suc (sets_put (bytes 4 c.args.x) c.args.s.now c.args.at c.requires)
+returns c = c.put_bytes.ensures ∙ ap (put c.args.s.now c.args.at) (c.to_le_bytes.ensures ∙ bytes_written 4 c.args.x)

@@ -1,9 +1,7 @@
--- The result is the sum that `little` unfolds to.
-use native.Mathlib.Numerals.{add-one}
-use native.Mathlib.Omega.{arith}
-use Rattle.codec.specs.Bytes.{little}
+-- The number in so many bytes, as the library reads it.
+use Rattle.std.proofs.Common.{◌∙◌}
+use Rattle.codec.proofs.Laws.{number_read}
 use Rattle.codec.proofs.u16_at.Goals as goal
 
 pub returns : goal.returns
-unfolding little
-returns c = omega (arith, rw add-one at c.join8.ensures)
+returns c = c.from_le_bytes.ensures ∙ (rw c.bytes_at.ensures (number_read 1 c.args.at c.args.s.now))

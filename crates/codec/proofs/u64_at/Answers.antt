@@ -1,9 +1,7 @@
--- The two halves make the number: `little_add`.
-use native.Mathlib.Omega.{arith}
-use Rattle.codec.proofs.Laws.{little_add}
+-- The number in so many bytes, as the library reads it.
+use Rattle.std.proofs.Common.{◌∙◌}
+use Rattle.codec.proofs.Laws.{number_read}
 use Rattle.codec.proofs.u64_at.Goals as goal
 
 pub returns : goal.returns
-returns c =
-    let start = c in
-    omega (arith, little_add 4 4 start.args.s.now start.args.at)
+returns c = c.from_le_bytes.ensures ∙ (rw c.bytes_at.ensures (number_read 7 c.args.at c.args.s.now))

@@ -17,14 +17,14 @@ pub returns-then-input-lt4 : goal.returns-then-input-lt4
 unfolding framed rank
 returns-then-input-lt4 c =
     let s = c.args.input.now in
-    simp (ne_eqb (length s) 0 c.if-input-eq0.false, lt-ltb (length s) 4 c.if-input-lt4.true)
+    simp (ne_eqb (length s) 0 c.if-input-eq0.false, lt-ltb (length s) 4 c.if-input-lt4.true, c.number.ensures)
 
 pub returns-then-length-lt2 : goal.returns-then-length-lt2
 unfolding framed rank
 returns-then-length-lt2 c =
     let s = c.args.input.now in
     let n : 4 ≤ length s = omega arith in
-    simp (ne_eqb (length s) 0 (λ e. omega arith), le-ltb (length s) 4 n, lt-ltb (little 2 s 0) 2 (omega arith))
+    simp (ne_eqb (length s) 0 (λ e. omega arith), le-ltb (length s) 4 n, lt-ltb (little 2 s 0) 2 (omega arith), c.number-then-length-lt2.ensures)
 
 pub returns-then-input-length : goal.returns-then-input-length
 unfolding framed rank
@@ -36,6 +36,7 @@ returns-then-input-length c =
       le-ltb (length s) 4 n,
       le-ltb (little 2 s 0) 2 (omega arith),
       lt-ltb (length s - 2) (little 2 s 0) (omega arith),
+      c.number-then-input-length.ensures,
     )
 
 pub returns : goal.returns

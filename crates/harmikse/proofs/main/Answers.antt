@@ -4,4 +4,4 @@ use Rattle.harmikse.specs.Program.{too_long}
 use Rattle.harmikse.proofs.main.Goals as goal
 
 pub print_line-requires : goal.print_line-requires
-print_line-requires c = (omega arith, too_long (omega (arith, c.read_input-read.ensures.front)))
+print_line-requires c = (omega arith, too_long (omega (arith, c.in-Ok.ensures.front)))

@@ -1,31 +1,22 @@
--- The invariant: the classes are those by the marks below `i`.
-use mathlib.Core.Path.{refl}
-use native.Mathlib.Omega.{arith}
-use lib.ListN.{get_or}
+-- The classes are those by the marks that were passed.
+use Rattle.std.proofs.Common.{refl, get_or}
 use Rattle.terms.proofs.Ends.{mark_markable, mark_named}
 use Rattle.terms.specs.Places.{empty_mark}
 use Rattle.joined.proofs.Joining.{classes_none, classes_more}
 use Rattle.joined.proofs.classes_of.Goals as goal
 
-pub loop-i-init : goal.loop-i-init
-loop-i-init c = (omega arith, classes_none _ refl)
+pub loop-mark-init : goal.loop-mark-init
+loop-mark-init c = classes_none _ refl
 
 pub join-requires : goal.join-requires
 join-requires c =
-    let round = c in
-    let start = round in (
-      round.loop-i.invariant.1.size,
-      mark_markable (get_or start.args.marks round.loop-i.i empty_mark)
-          (mark_named _ _ round.loop-i.i _ start.requires round.loop-i-test.true),
-    )
+    let l = c.loop-mark in
+    let ms = c.args.marks.now in
+    (l.invariant.size, mark_markable (get_or ms l.mark-index empty_mark) (mark_named ms l.mark-index _ c.requires c.loop-mark-test.true))
 
-pub loop-i-preserved : goal.loop-i-preserved
-loop-i-preserved c =
-    let round = c in
-    let start = round in
-    let i = round.loop-i.i in (
-      omega (arith, round.loop-i-test.true),
-      classes_more start.args.marks i _ _ (omega (arith, round.loop-i-test.true, start.requires.size, start.requires.few))
-          (mark_markable (get_or start.args.marks i empty_mark) (mark_named _ _ i _ start.requires round.loop-i-test.true))
-          round.loop-i.invariant.1 c.join.ensures,
-    )
+pub loop-mark-preserved : goal.loop-mark-preserved
+loop-mark-preserved c =
+    let l = c.loop-mark in
+    let ms = c.args.marks.now in
+    let t = c.loop-mark-test.true in
+    classes_more ms l.mark-index _ _ t (mark_markable (get_or ms l.mark-index empty_mark) (mark_named ms l.mark-index _ c.requires t)) l.invariant c.join.ensures

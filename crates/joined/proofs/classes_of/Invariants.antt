@@ -1,11 +1,7 @@
--- The invariant: the classes are those by the marks below `i`.
-use Prim.Native.Nat.{◌≤◌, ◌-◌}
-use lib.ListN.{take}
+-- The classes are those by the marks that were passed.
+use Rattle.std.proofs.Common.{take}
 use Rattle.joined.specs.Joining.{Classes}
 use Rattle.joined.proofs.classes_of.Given as goal
 
-abbrev pub invariant-loop-i : goal.invariant-loop-i
-invariant-loop-i l = (l.i ≤ l.count) × Classes (take l.i l.marks) l.classes
-
-abbrev pub decreases-loop-i : goal.decreases-loop-i
-decreases-loop-i l = l.count - l.i
+abbrev pub invariant-loop-mark : goal.invariant-loop-mark
+invariant-loop-mark l = Classes (take l.mark-index l.marks) l.classes

@@ -26,35 +26,21 @@ matched q x y i e f = e ∙ ap (λ z. Question.Holds z i) f
 
 pub returns-in-Spans : goal.returns-in-Spans
 returns-in-Spans c =
-    let wide = c in
-    let asked = wide in
-    let classes = asked in
-    let start = classes in
     let e = c.in-Spans.is in
-    concerned_one _ _ classes.classes_of-classes.ensures start.args.question _ _ _ (ap about e) wide.wide-place.ensures (spans-item _ _ _ e start.requires.1).0
+    concerned_one _ _ c.classes_of-classes.ensures c.args.question _ _ _ (ap about e) c.from-place.ensures (spans-item _ _ _ e c.requires.1).0
     c.either.ensures
 
 pub returns-in-Has : goal.returns-in-Has
 returns-in-Has c =
-    let wide = c in
-    let atom = wide in
-    let asked = atom in
-    let classes = asked in
-    let start = classes in
     let e = c.in-Holds.is in
     let f = c.in-Has.is in
-    concerned_one _ _ classes.classes_of-classes.ensures start.args.question _ _ _ (ap about (matched _ _ _ _ e f)) wide.wide-place-in-Has.ensures
-    (names_of_label _ _ _ f (asked-statement _ _ _ e start.requires.1)).0 c.either-in-Has.ensures
+    concerned_one _ _ c.classes_of-classes.ensures c.args.question _ _ _ (ap about (matched _ _ _ _ e f)) c.from-place-in-Has.ensures
+    (names_of_label _ _ _ f (asked-statement _ _ _ e c.requires.1)).0 c.either-in-Has.ensures
 
 pub returns-in-Linked : goal.returns-in-Linked
 returns-in-Linked c =
-    let wide = c in
-    let atom = wide in
-    let asked = atom in
-    let classes = asked in
-    let start = classes in
     let e = c.in-Holds.is in
     let f = c.in-Linked.is in
-    let names = names_of_link _ _ _ _ f (asked-statement _ _ _ e start.requires.1) in
-    concerned_two _ _ classes.classes_of-classes.ensures start.args.question _ _ _ _ _ (ap about (matched _ _ _ _ e f)) wide.wide.ensures
-    wide.wide-in-Linked.ensures names.0 names.2 c.either-in-Linked.ensures
+    let names = names_of_link _ _ _ _ f (asked-statement _ _ _ e c.requires.1) in
+    concerned_two _ _ c.classes_of-classes.ensures c.args.question _ _ _ _ _ (ap about (matched _ _ _ _ e f)) c.from.ensures
+    c.from-in-Linked.ensures names.0 names.2 c.either-in-Linked.ensures

@@ -6,8 +6,5 @@ use Rattle.keys.specs.Search.{distinct}
 use Rattle.keys.specs.Slots.{Slots}
 use Rattle.keys.proofs.distinct_keys.Given as goal
 
-abbrev pub invariant-loop-i : goal.invariant-loop-i
-invariant-loop-i l = (l.i ≤ length l.keys) × (l.count ≡ distinct (drop l.i l.keys)) × Slots l.keys l.i l.slots
-
-abbrev pub decreases-loop-i : goal.decreases-loop-i
-decreases-loop-i l = l.i
+abbrev pub invariant-loop-at : goal.invariant-loop-at
+invariant-loop-at l = (l.at ≤ length l.keys) × (l.count ≡ distinct (drop l.at l.keys)) × Slots l.keys l.at l.slots

@@ -1,5 +1,5 @@
 -- The parts of a line, one behind the other; together they have room.
-use Rattle.std.proofs.Common.{arith}
+use Rattle.std.proofs.Common.{arith, length-take}
 use Rattle.terms.specs.Pairs.{pair_count}
 use Rattle.lines.specs.Lines.{line_text}
 use Rattle.lines.proofs.Laid.{laid_then}
@@ -14,7 +14,7 @@ put_answer-pairs-requires c = omega (arith, decimal_short c.args.number)
 
 pub put_pairs-end-requires : goal.put_pairs-end-requires
 put_pairs-end-requires c =
-    let digits = decimal_short c.args.number in let words = words_short c.args.answer in (omega arith, omega arith)
+    let digits = decimal_short c.args.number in let words = words_short c.args.answer in simp length-take (omega arith)
 
 pub put_text-requires : goal.put_text-requires
 put_text-requires c =

@@ -14,9 +14,9 @@ returns-then-kind-eq6 c = let a = c.args in
     let g : SFits w32 a.bottom = search rules in
     rw (c.if-kind-eq6.true, to_z-of_z w32 a.top f, to_z-of_z w32 a.bottom g)
 
-pub returns : goal.returns
+pub returns-else-kind-eq6 : goal.returns-else-kind-eq6
 unfolding mark_of
-returns c = let a = c.args in
+returns-else-kind-eq6 c = let a = c.args in
     let f : SFits w32 a.top = search rules in
     let g : SFits w32 a.bottom = search rules in
     rw (ne_eqb _ _ c.if-kind-eq6.false, to_z-of_z w32 a.top f, to_z-of_z w32 a.bottom g)

@@ -3,4 +3,4 @@ use Rattle.questions.proofs.Given.{lists_in}
 use Rattle.questions.proofs.derive.Goals as goal
 
 pub derive-requires : goal.derive-requires
-derive-requires c = (lists_in c.args.state c.requires.0, c.requires.1, c.requires.2, c.requires.3)
+derive-requires c = rw (c.rules.ensures, c.marks.ensures) (lists_in c.args.state.now c.requires.0, c.requires.1, c.requires.2)

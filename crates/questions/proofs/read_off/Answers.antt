@@ -6,6 +6,7 @@ use mir.Facts.{to_z-of_z}
 use borrow.Author.Rules.{rules}
 use Rattle.terms.specs.declared.Question.{Question}
 use Rattle.terms.specs.Held.{is_question}
+use Rattle.line.proofs.Places.{no_more}
 use Rattle.questions.proofs.Answering.{count_fits, interval_low}
 use Rattle.questions.proofs.read_off.Goals as goal
 
@@ -15,8 +16,8 @@ holds-requires c =
       c.requires.labels_long,
       c.requires.links_long,
       subst (λ (x : Question). T (is_question x)) c.in-Holds.is c.requires.named,
-      interval_low _ c.in-Holds.depth _ c.requires.few (rw (to_z-of_z fits) at c.interval_of-p.ensures),
+      interval_low _ c.in-Holds.depth _ (no_more c.args.cuts.now) (rw (to_z-of_z fits) at c.interval_of-p.ensures),
     )
 
 pub overflow_cast-result : goal.overflow_cast-result
-overflow_cast-result c = record { fits = count_fits _ _ _ _ _ _ c.requires.few c.write_spans-count.ensures }
+overflow_cast-result c = record { fits = count_fits _ _ _ _ _ _ (no_more c.args.cuts.now) c.write_spans-count.ensures }

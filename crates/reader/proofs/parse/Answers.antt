@@ -1,6 +1,7 @@
 -- The frame says what stands at the place: of a record, that its body lies within the input and has a length of its kind.
 use Rattle.std.proofs.Common.{ℕ, ◌+◌, List, length, drop, sym, ap, ◌∙◌, subst, arith}
 use lib.Dec.{T}
+use Rattle.terms.specs.Otherwise.{by_number}
 use Rattle.frames.specs.Framing.{framed_in}
 use Rattle.frames.specs.Frames.{lengths_of, allows}
 use Rattle.records.specs.Records.{decode_body}
@@ -61,5 +62,5 @@ returns-in-Record c =
     let k = c.in-Record.kind in
     let e = sym c.in-Record.ensures.there in
     let F = framed_in (drop a.at a.input.now) _ _ e in
-    read_record a.settings _ k _ e c.decode_body.result
+    read_record a.settings _ k _ e (by_number c.decode_body.result)
     (c.decode_body.ensures ∙ ap (decode_body a.settings k) (body_at a.at _ _ a.input.now F)) _ c.input_of.ensures

@@ -10,4 +10,4 @@ use Rattle.scans.proofs.end_number.Goals as goal
 pub returns : goal.returns
 unfolding end_number
 returns c =
-    ap (λ (n : ℕ). n % END_ROOM) (c.bits32.ensures ∙ ap (of_z w32) (to_z-of_z w32 c.args.depth c.ranges.depth))
+    ap (λ (n : ℕ). n % END_ROOM) (c.from.ensures ∙ (c.bits32.ensures ∙ ap (of_z w32) (to_z-of_z w32 c.args.depth c.ranges.depth)))

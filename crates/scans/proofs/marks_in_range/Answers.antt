@@ -1,22 +1,11 @@
--- The test of the elements passed, one more with each turn.
-use mathlib.Core.Path.{◌≡◌, refl}
-use Prim.Native.Nat.{◌<◌}
-use native.Mathlib.Omega.{arith}
-use lib.ListN.{length}
+-- As the library says of `all`.
+use Rattle.std.proofs.Common.{rules, ◌∙◌}
+use Rattle.std.proofs.lemmas.Iterator.{YieldsList-from_slice}
+use Rattle.std.proofs.lemmas.Iterator.Search.{all_from_yields_List}
 use Rattle.terms.specs.Held.{is_mark}
-use Rattle.terms.specs.Lists.{every}
-use Rattle.keys.proofs.Scan.{length_of_map, take_more, every_more}
-use Rattle.std.proofs.Common.{rules}
+use Rattle.keys.proofs.Scan.{every_list}
 use Rattle.scans.proofs.marks_in_range.Goals as goal
 
-pub loop-i-init : goal.loop-i-init
-unfolding every
-loop-i-init c = (omega arith, refl)
-
-pub loop-i-preserved : goal.loop-i-preserved
-loop-i-preserved c =
-    let l = c.loop-i in
-    let t = c.loop-i-test.true in
-    let n : length c.args.marks ≡ 256 = search (rules, length_of_map) in
-    let h : l.i < length c.args.marks = omega arith in
-    (omega arith, every_more is_mark _ _ _ l.all c.in_range-all.result (take_more c.args.marks l.i _ h) l.invariant.1 c.in_range-all.ensures)
+pub returns : goal.returns
+returns c =
+    all_from_yields_List is_mark _ _ _ c.all.ensures.ran (YieldsList-from_slice c.args.marks.now cc) (λ x b q k. search rules) ∙ every_list is_mark c.args.marks.now

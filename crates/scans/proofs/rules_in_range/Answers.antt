@@ -1,24 +1,11 @@
--- The test of the elements passed, one more with each turn.
-use mathlib.Core.Path.{◌≡◌, refl}
-use Prim.Native.Nat.{◌<◌}
-use native.Mathlib.Omega.{arith}
-use lib.ListN.{length}
+-- As the library says of `all`.
+use Rattle.std.proofs.Common.{rules, ◌∙◌}
+use Rattle.std.proofs.lemmas.Iterator.{YieldsList-from_slice}
+use Rattle.std.proofs.lemmas.Iterator.Search.{all_from_yields_List}
 use Rattle.terms.specs.Held.{is_rule}
-use Rattle.terms.specs.Places.{rules_in}
-use Rattle.terms.specs.Lists.{every}
-use Rattle.keys.proofs.Scan.{length_of_map, every_more}
-use Rattle.scans.proofs.Keyed.{rules_more}
-use Rattle.std.proofs.Common.{rules}
+use Rattle.keys.proofs.Scan.{every_list}
 use Rattle.scans.proofs.rules_in_range.Goals as goal
 
-pub loop-i-init : goal.loop-i-init
-unfolding every rules_in
-loop-i-init c = (omega arith, refl)
-
-pub loop-i-preserved : goal.loop-i-preserved
-loop-i-preserved c =
-    let l = c.loop-i in
-    let t = c.loop-i-test.true in
-    let n : length c.args.places ≡ 128 = search (rules, length_of_map) in
-    let h : l.i < length c.args.places = omega arith in
-    (omega arith, every_more is_rule _ _ _ l.all c.in_range-all.result (rules_more c.args.places l.i _ h) l.invariant.1 c.in_range-all.ensures)
+pub returns : goal.returns
+returns c =
+    all_from_yields_List is_rule _ _ _ c.all.ensures.ran (YieldsList-from_slice c.args.rules.now cc) (λ x b q k. search rules) ∙ every_list is_rule c.args.rules.now

@@ -1,10 +1,7 @@
 -- Invariant: the first `k` pairs of the block are exchanged.
 use Rattle.transpose.specs.Transposed.{Span}
-use Prim.Native.Nat.{◌+◌, ◌-◌, ◌≤◌}
+use Prim.Native.Nat.{◌+◌}
 use Rattle.transpose.proofs.block_pairs.Given as goal
 
 abbrev pub invariant-loop-k : goal.invariant-loop-k
-invariant-loop-k l = (l.k ≤ l.step) × Span l.step l.initial.square l.base (l.base + l.k) l.square
-
-abbrev pub decreases-loop-k : goal.decreases-loop-k
-decreases-loop-k l = l.step - l.k
+invariant-loop-k l = Span l.step l.initial.square l.base (l.base + l.k) l.square

@@ -1,5 +1,5 @@
 -- The parts of a line have room, each behind the other.
-use Rattle.std.proofs.Common.{arith}
+use Rattle.std.proofs.Common.{arith, length-take}
 use Rattle.lines.proofs.Spelled.{decimal_short, words_short}
 use Rattle.vectors.proofs.print_line.Goals as goal
 
@@ -20,6 +20,13 @@ pub put_text-all-requires : goal.put_text-all-requires
 put_text-all-requires g c =
     omega (arith, decimal_short c.args.number, words_short c.args.reply.answer, decimal_short c.args.reply.used)
 
-pub print_first-requires : goal.print_first-requires
-print_first-requires g c =
+pub slice_bounds-line-end : goal.slice_bounds-line-end
+slice_bounds-line-end g c =
     omega (arith, decimal_short c.args.number, words_short c.args.reply.answer, decimal_short c.args.reply.used)
+
+pub slice_bounds-print-end : goal.slice_bounds-print-end
+slice_bounds-print-end g c =
+    let digits = decimal_short c.args.number in
+    let words = words_short c.args.reply.answer in
+    let used = decimal_short c.args.reply.used in
+    simp length-take (omega arith)

@@ -1,29 +1,17 @@
--- The invariant: no item below `item` is concerned and has NEVER; the measure is the number of items left.
-use mathlib.Core.Path.{◌≡◌, sym, ◌∙◌}
-use mathlib.Core.Bool.{false}
-use native.Mathlib.Omega.{arith}
-use borrow.Author.Count.{below_more}
-use Rattle.verdicts.specs.Reading.{listed, clashes_in}
-use Rattle.verdicts.proofs.Reading.{clash_found, clash_absent}
+-- The first item that passes is the lowest.
+use mathlib.Core.Path.{refl, sym, ◌∙◌}
+use Rattle.std.proofs.Common.{rules, of_calls}
+use Rattle.std.proofs.lemmas.Iterator.{YieldsList-from_range}
+use Rattle.std.proofs.lemmas.Iterator.Adapters.{option_map_id}
+use Rattle.std.proofs.lemmas.Iterator.Search.{find_from_yields_List}
+use Rattle.terms.specs.Limits.{ITEMS}
+use Rattle.verdicts.specs.Reading.{listed, clashes_in, clash_in}
+use Rattle.verdicts.proofs.Reading.{lowest_is}
 use Rattle.verdicts.proofs.clash_in.Goals as goal
 
-pub returns-then-clashes : goal.returns-then-clashes
-returns-then-clashes c =
-    let l = c in
-    let s = l in
-    clash_found (listed s.args.concerned) s.args.labels.now l.loop-item.item l.loop-item-test.true l.loop-item.invariant.1
-    (sym c.clashes.ensures ∙ c.if-clashes.true)
-
-pub loop-item-preserved : goal.loop-item-preserved
-loop-item-preserved c =
-    let l = c in
-    let s = l in (
-      omega (arith, l.loop-item-test.true),
-      below_more (λ a. clashes_in (listed s.args.concerned) s.args.labels.now a ≡ false) l.loop-item.item l.loop-item.invariant.1
-          (sym c.clashes.ensures ∙ c.if-clashes.false),
-    )
-
 pub returns : goal.returns
+unfolding clash_in
 returns c =
-    let s = c in
-    clash_absent (listed s.args.concerned) s.args.labels.now (λ a l. c.loop-item.invariant.1 a (omega (arith, c.loop-item-test.false)))
+    let r = find_from_yields_List (clashes_in (listed c.args.concerned) c.args.labels.now) _ _ c.find.result c.find.ensures.ran (YieldsList-from_range 0 ITEMS ITEMS refl refl)
+    (λ x b q k. search (rules, of_calls)) in
+    sym (option_map_id c.find.result) ∙ r ∙ lowest_is (clashes_in (listed c.args.concerned) c.args.labels.now) ITEMS 0

@@ -1,17 +1,12 @@
--- The invariant: no entry before `p` has NEVER; the measure is the number of entries left.
-use mathlib.Core.Path.{sym, ◌∙◌}
+-- One of the item's entries has NEVER, or none has.
 use native.Mathlib.Omega.{arith}
-use borrow.Author.Tests.{eq-eqb}
-use Rattle.verdicts.proofs.Reading.{never_found, never_absent}
+use Rattle.std.proofs.Common.{rules, tests, ◌≡◌, true, false}
+use Rattle.std.proofs.lemmas.Iterator.{YieldsList-from_slice, cases_from_any}
+use Rattle.verdicts.proofs.Reading.{has, never_is}
 use Rattle.verdicts.proofs.has_never.Goals as goal
-
-pub returns-then-bit-eq1 : goal.returns-then-bit-eq1
-returns-then-bit-eq1 c =
-    let l = c in
-    let s = l in
-    never_found s.args.labels.now s.args.item l.loop-p.p l.loop-p-test.true (eq-eqb _ _ (sym c.bit.ensures ∙ c.if-bit-eq1.true))
 
 pub returns : goal.returns
 returns c =
-    let s = c in
-    never_absent s.args.labels.now s.args.item (λ q l. c.loop-p.invariant.1 q (omega (arith, c.loop-p-test.false)))
+    let w = cases_from_any _ _ c.any.result (λ w. has w ≡ true) (λ w. has w ≡ false) c.any.ensures.ran (YieldsList-from_slice _ c.iter.ensures.rest)
+    (λ x q k. search (rules, tests)) (λ x q k. search (rules, tests)) in
+    never_is c.args.labels.now c.args.item _ (omega arith) (omega arith) c.any.result w

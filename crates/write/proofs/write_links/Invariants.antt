@@ -1,12 +1,7 @@
 -- Invariant: the blocks of the first `pair` pairs are written.
-use Rattle.store.specs.Numbers.{PAIRS}
 use Rattle.terms.specs.Limits.{KINDS}
 use Rattle.write.proofs.Tables.{Blocks, pair_start}
-use Prim.Native.Nat.{◌-◌, ◌≤◌}
 use Rattle.write.proofs.write_links.Given as goal
 
 abbrev pub invariant-loop-pair : goal.invariant-loop-pair
-invariant-loop-pair l = (l.pair ≤ PAIRS) × Blocks l.rows pair_start KINDS l.pair l.initial.links l.links
-
-abbrev pub decreases-loop-pair : goal.decreases-loop-pair
-decreases-loop-pair l = PAIRS - l.pair
+invariant-loop-pair l = Blocks l.rows pair_start KINDS l.pair l.initial.links l.links

@@ -6,12 +6,14 @@ use Rattle.state.proofs.State.within_limits.Goals as goal
 
 pub returns-then-not-in_range : goal.returns-then-not-in_range
 returns-then-not-in_range c =
-    out_of_range c.args.self c.requires _ _ c.rules_in_range.ensures c.marks_in_range.ensures (ap not c.if-not-in_range.true)
+    out_of_range c.args.self c.requires _ _ c.rules-rules.ensures c.marks-marks.ensures _ _ c.rules_in_range.ensures c.marks_in_range.ensures
+    (ap not c.if-not-in_range.true)
 
 pub marks_once-requires : goal.marks_once-requires
 marks_once-requires c =
-    marks_named c.args.self c.requires
-    (marks_ranged c.args.self c.requires _ _ c.rules_in_range.ensures c.marks_in_range.ensures (ap not c.if-not-in_range.false))
+    let m = c.marks-marks.ensures in
+    let t = marks_ranged c.args.self c.requires _ _ c.rules-rules.ensures m _ _ c.rules_in_range.ensures c.marks_in_range.ensures (ap not c.if-not-in_range.false) in
+    rw m (marks_named c.args.self c.requires (rw m at t))
 
 pub returns : goal.returns
 returns c =
@@ -23,4 +25,5 @@ returns c =
       c.rules_admitted-admitted.ensures,
       c.in_range.ensures,
     )
-    (in_range c.args.self c.requires _ _ c.rules_in_range.ensures c.marks_in_range.ensures (ap not c.if-not-in_range.false))
+    (in_range c.args.self c.requires _ _ c.rules-rules.ensures c.marks-marks.ensures _ _ c.rules_in_range.ensures c.marks_in_range.ensures
+    (ap not c.if-not-in_range.false))
