@@ -1,5 +1,5 @@
 // The memory that a script is run on, filled and summed whole.
-ghost use Rattle.std.specs.Prelude.{◌<◌};
+ghost use Rattle.std.specs.Prelude.{◌≡◌, ◌<◌, false, ltb};
 
 pub const BLOCK_ROOM: usize = 5120;
 
@@ -30,8 +30,11 @@ pub struct Checksums {
 }
 
 impl Memory {
-    // Fills the memory of a number; false where there is none.
-    pub fn fill(&mut self, which: u8, seed: u8) -> bool {
+    // Fills the memory of a number; false where there is none, and nothing is filled then.
+    pub fn fill(&mut self, which: u8, seed: u8) -> bool
+        ensures there { result ≡ ltb which 4 }
+        ensures kept { result ≡ false → self.new ≡ self.old }
+    {
         match which {
             0 => fill(&mut self.block, seed),
             1 => fill(&mut self.labels, seed),
@@ -42,7 +45,9 @@ impl Memory {
         true
     }
 
-    pub fn sums(&self) -> Checksums {
+    pub fn sums(&self) -> Checksums
+        ensures { (result.block < MODULUS) × (result.labels < MODULUS) × (result.links < MODULUS) × (result.spans < MODULUS) }
+    {
         Checksums {
             block: sum(&self.block, u64::from),
             labels: sum(&self.labels, |number| number),
@@ -76,6 +81,7 @@ fn mix(sum: u64, number: u64) -> u64
 
 fn sum<T: Copy, F: Fn(T) -> u64>(elements: &[T], number: F) -> u64
     requires { F.IsAlwaysCallable number }
+    ensures { result < MODULUS }
 {
     let mut sum = 0;
     for element in elements {
