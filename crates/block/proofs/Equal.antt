@@ -1,12 +1,13 @@
 -- The test `same_bytes` is equality of lists, by induction over both. Assumes nothing.
-use mathlib.Core.Path.{◌≡◌, refl, ap}
+use mathlib.Core.Path.{◌≡◌, refl, ap, ◌∙◌}
 use mathlib.Core.Bool.{true, ◌&&◌}
 use mathlib.Core.List.{List, [], ◌∷◌}
-use Prim.Native.Nat.{ℕ}
+use Prim.Native.Nat.{ℕ, zero, suc, ◌<◌}
+use native.Mathlib.Omega.{arith}
 use borrow.Author.Tests.{eq-eqb}
 use lib.Dec.{T, eqb, eqb→eq}
-use lib.Pointwise.{pointwise}
-use Rattle.terms.specs.Tests.{and_both}
+use lib.ListN.{length, get_or, take}
+use Rattle.terms.specs.Tests.{and_both, and_true, and_assoc}
 use Rattle.block.specs.Block.{same_bytes}
 
 pub same_bytes_refl : (xs : List ℕ) → same_bytes xs xs ≡ true
@@ -25,10 +26,13 @@ same_bytes_true (x ∷ xs) (y ∷ ys) t =
     let q : xs ≡ ys = same_bytes_true xs ys w.1 in
     cc
 
--- the library's comparison
-pub same_pointwise : (xs ys : List ℕ) → pointwise eqb xs ys ≡ same_bytes xs ys
+-- one byte more
+pub same_more : (xs ys : List ℕ) (i : ℕ) → i < length xs → i < length ys →
+    same_bytes (take (suc i) xs) (take (suc i) ys) ≡ (same_bytes (take i xs) (take i ys) && eqb (get_or xs i 0) (get_or ys i 0))
 unfolding same_bytes
-same_pointwise [] [] = refl
-same_pointwise [] (y ∷ ys) = refl
-same_pointwise (x ∷ xs) [] = refl
-same_pointwise (x ∷ xs) (y ∷ ys) = ap (λ b. eqb x y && b) (same_pointwise xs ys)
+same_more [] ys i h l = let z : ⊥ = omega arith in absurd z
+same_more (x ∷ xs) [] i h l = let z : ⊥ = omega arith in absurd z
+same_more (x ∷ xs) (y ∷ ys) zero h l = and_true (eqb x y)
+same_more (x ∷ xs) (y ∷ ys) (suc i) h l =
+    ap (λ b. eqb x y && b) (same_more xs ys i (omega arith) (omega arith))
+    ∙ and_assoc (eqb x y) (same_bytes (take i xs) (take i ys)) (eqb (get_or xs i 0) (get_or ys i 0))

@@ -5,7 +5,7 @@ ghost use Rattle.std.specs.Prelude.{◌≡◌, ℕ, ◌++◌, ◌≤◌, ◌<◌
 ghost use Rattle.codec.specs.Bytes.{put};
 ghost use Rattle.terms.specs.Limits.{RULES, MARKS};
 ghost use Rattle.state.specs.State.{CountsIn, held_of};
-ghost use Rattle.places.specs.Layout.{rule_bytes, mark_bytes, cat, HEADER, MARKS_AT, SIZE, encode};
+ghost use Rattle.places.specs.Layout.{rule_bytes, mark_bytes, cat, zeros, HEADER, MARKS_AT, SIZE, encode};
 ghost use Rattle.block.specs.Block.{same_bytes, LoadedAs};
 ghost use Rattle.block.specs.Places.{ReadBy};
 
@@ -21,6 +21,14 @@ const RULE_BYTES: usize = 8;
 const MARK_BYTES: usize = 12;
 
 const MARKS_AT: usize = HEADER + RULES * RULE_BYTES;
+
+// A free place is zero bytes.
+fn clear(b: &mut [u8])
+    requires { SIZE ≤ length b.old }
+    ensures { b.new ≡ zeros SIZE ++ drop SIZE b.old }
+{
+    b[..SIZE].fill(0);
+}
 
 // This and `store_marks` stay apart: one function would take a closure that writes to what is lent, and its contract is longer than both.
 fn store_rules(b: &mut [u8], rules: &[Rule])
@@ -54,12 +62,12 @@ fn filled<T: Copy, F: Fn(usize) -> T, const N: usize>(n: usize, empty: T, read: 
     places
 }
 
-// A free place is zero bytes. The bytes behind the block stay as they are.
+// The bytes behind the block stay as they are.
 pub fn store(block: &mut [u8], state: State)
     requires { CountsIn state × (SIZE ≤ length block.old) }
     ensures { block.new ≡ encode (held_of state) ++ drop SIZE block.old }
 {
-    block[..SIZE].fill(0);
+    clear(block);
     codec::put_u16(block, 0, state.rule_count as u16);
     codec::put_u16(block, 2, state.mark_count as u16);
     places::put_settings(block, state.settings);
@@ -74,12 +82,16 @@ fn blank() -> [u8; SIZE]
     [0; SIZE]
 }
 
-// The block begins with the copy.
+// The block begins with the copy. No branch on a byte: so the whole is compared many bytes at a time.
 fn is_copy(copy: &[u8], block: &[u8]) -> bool
     requires { (length copy.now ≡ SIZE) × (SIZE ≤ length block.now) }
     ensures { result ≡ same_bytes copy.now (take SIZE block.now) }
 {
-    copy == &block[..SIZE]
+    let mut same = true;
+    for (at, byte) in copy.iter().enumerate() {
+        same &= *byte == block[at];
+    }
+    same
 }
 
 // A block is good where it is the encoding of what it holds: to store that again and compare tests every byte. None where it is not.
