@@ -10,13 +10,34 @@ use Rattle.refusals.specs.Refusals.{Test, Tested, test, tested}
 pub clash : {A : Type 0} {n : ℕ} → ◌≡◌ {A = Tested} (Ok tt) (Err n) → A
 clash e = differ (cc)
 
--- one test that passed, then another
+-- one test
+pub one_test : (p : Bool) (n : ℕ) → cond p (Ok tt) (Err n) ≡ tested (test (not p) n ∷ [])
+one_test true n = refl
+one_test false n = refl
+
+-- one test, then another
 pub two_tests :
+    (p q : Bool) (m n : ℕ) → or_else (cond p (Ok tt) (Err m)) (cond q (Ok tt) (Err n)) ≡ tested (test (not p) m ∷ test (not q) n ∷ [])
+two_tests true true m n = refl
+two_tests true false m n = refl
+two_tests false q m n = refl
+
+-- one test, then another, then a third
+pub three_tests :
+    (p q r : Bool) (l m n : ℕ) → or_else (cond p (Ok tt) (Err l)) (or_else (cond q (Ok tt) (Err m)) (cond r (Ok tt) (Err n)))
+    ≡ tested (test (not p) l ∷ test (not q) m ∷ test (not r) n ∷ [])
+three_tests true true true l m n = refl
+three_tests true true false l m n = refl
+three_tests true false r l m n = refl
+three_tests false q r l m n = refl
+
+-- one test that passed, then another
+pub second_test :
     (p q : Bool) (m n : Refusal) {u : Unit {0}} → ◌≡◌ {A = Result (Unit {0}) Refusal} (cond p (Ok tt) (Err m)) (Ok u) →
     by_number (cond q (Ok tt) (Err n)) ≡ tested (test (not p) (number_of_refusal m) ∷ test (not q) (number_of_refusal n) ∷ [])
-two_tests true true m n e = refl
-two_tests true false m n e = refl
-two_tests false q m n e = differ (cc)
+second_test true true m n e = refl
+second_test true false m n e = refl
+second_test false q m n e = differ (cc)
 
 -- of two lists in a row the first decides where one of its tests applies
 pub tested_append : (xs ys : List Test) → tested (xs ++ ys) ≡ or_else (tested xs) (tested ys)
