@@ -73,14 +73,14 @@ pub fn put_u16(s: &mut [u8], at: usize, x: u16)
     requires { at + 2 ≤ length s.old }
     ensures { s.new ≡ put s.old at (bytes 2 x) }
 {
-    put_bytes(s, at, &x.to_le_bytes())
+    put_bytes(s, at, &u16::to_le_bytes(x))
 }
 
 pub fn put_u32(s: &mut [u8], at: usize, x: u32)
     requires { at + 4 ≤ length s.old }
     ensures { s.new ≡ put s.old at (bytes 4 x) }
 {
-    put_bytes(s, at, &x.to_le_bytes())
+    put_bytes(s, at, &u32::to_le_bytes(x))
 }
 
 pub fn put_i32(s: &mut [u8], at: usize, z: i32)
